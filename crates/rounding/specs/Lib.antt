@@ -1,0 +1,2 @@
+pub mod SignOfZero
+pub mod StepLength

@@ -1,0 +1,3 @@
+pub mod IntegerRoot
+pub mod SquareRoot
+pub mod Steps
