@@ -5,3 +5,4 @@ pub mod Finite
 pub mod Zeros
 pub mod Halving
 pub mod Sharp
+pub mod Nan

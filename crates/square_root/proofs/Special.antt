@@ -6,12 +6,11 @@ use native.Mathlib.Nat.{le-trans, le-of-eq, le-of-lt, le-antisymm, le-of-suc-le-
 use native.Mathlib.Omega.{arith}
 use lib.Dec.{T, leb, eqb}
 use lib.Pow.{pow-pos}
-use lib.Ieee.{Float, nan, inf, fin, Format, binary64, prec, emax, low, up, down, hid, ones, top, odd, ofBits, ofFields, toBits, isNan, ne, eq, neg, fits}
-use lib.Ieee.Bits.{ofBits-toBits}
-use lib.Ieee.Compare.{differs-from-itself}
+use lib.Ieee.{Float, nan, inf, fin, Format, binary64, prec, emax, low, up, down, hid, ones, top, odd, ofBits, ofFields, ne, neg}
 use lib.Ieee.Exact.{HasValue, odd-sign}
 use lib.Ieee.Fits.{down-pos}
 use borrow.Author.Tests.{le-leb, lt-leb, eq-eqb, ne-eqb}
+use Rattle.rounding.proofs.Nan.{unequal-to-itself}
 use Rattle.square_root.specs.SquareRoot.{squareRoot}
 use Rattle.square_root.proofs.FromBits.{magnitude-positive, hid-pos, fields}
 use Rattle.square_root.specs.Steps.{magnitude}
@@ -21,14 +20,7 @@ use Rattle.square_root.specs.Steps.{magnitude}
 -- what compares unequal to itself is a NaN, and is its own root
 pub nan-root : (f : Format) (x : Float) → ne x x ≡ true → x ≡ squareRoot f x
 unfolding squareRoot
-nan-root f x h = let n = differs-from-itself x (subst T (sym h) tt) in n ∙ ap (squareRoot f) (sym n)
-
--- what compares equal to itself is none
-pub not-nan : (x : Float) → ne x x ≡ false → T (not (isNan x))
-unfolding ne eq isNan
-not-nan nan h = subst (λ (b : Bool). cond b ⊥ Unit) (sym h) tt
-not-nan (inf s) h = tt
-not-nan (fin s m e) h = tt
+nan-root f x h = let n = unequal-to-itself x h in n ∙ ap (squareRoot f) (sym n)
 
 -- ---- a negative value
 

@@ -4,8 +4,8 @@ use Prim.Native.Nat.{ℕ, _-_, _/_, _%_, _≤_}
 use native.Mathlib.Omega.{arith}
 use lib.Ieee.{binary64, toBits}
 use borrow.Author.Needs.{needs}
+use Rattle.rounding.proofs.Nan.{equal-to-itself}
 use Rattle.square_root.proofs.FromBits.{no-nan}
-use Rattle.square_root.proofs.Special.{not-nan}
 use Rattle.square_root.proofs.kernel.estimate.Statement.{statement}
 use Rattle.square_root.proofs.kernel.estimate.Tie as tie
 
@@ -13,7 +13,7 @@ returns : tie.Need-returns
 returns c = search needs
 
 float-to-bits-bits : tie.Need-float-to-bits-bits
-float-to-bits-bits c = not-nan (c .before .args .x) (c .if1 .left)
+float-to-bits-bits c = equal-to-itself (c .before .args .x) (c .if1 .left)
 
 sub-seed : tie.Need-sub-seed
 sub-seed c = search needs

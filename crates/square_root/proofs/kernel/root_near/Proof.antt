@@ -8,8 +8,9 @@ use lib.Dec.{T}
 use lib.Ieee.{Float, nan, binary64, ofBits, toBits, div, fits, isNan}
 use lib.Ieee.Bits.{ofBits-toBits, toBits-lt}
 use borrow.Author.Needs.{needs}
+use Rattle.rounding.proofs.Nan.{equal-to-itself}
 use Rattle.square_root.specs.SquareRoot.{squareRoot}
-use Rattle.square_root.proofs.Special.{nan-root, not-nan, negative-bits, infinite-bits, zero-root, minus-zero-root}
+use Rattle.square_root.proofs.Special.{nan-root, negative-bits, infinite-bits, zero-root, minus-zero-root}
 use Rattle.square_root.proofs.kernel.root_near.Statement.{statement}
 use Rattle.square_root.proofs.kernel.root_near.Tie as tie
 
@@ -37,7 +38,7 @@ returns : tie.Need-returns
 returns c = nan-root binary64 (c .before .args .x) (c .if1 .taken)
 
 float-to-bits-bits : tie.Need-float-to-bits-bits
-float-to-bits-bits c = not-nan (c .before .args .x) (c .if1 .left)
+float-to-bits-bits c = equal-to-itself (c .before .args .x) (c .if1 .left)
 
 returns-2 : tie.Need-returns-2
 returns-2 c = let s = c .before .before in root-of-own-bits (s .args .x) (held s) (c .if2 .taken) minus-zero-root
@@ -67,7 +68,7 @@ returns-6 : tie.Need-returns-6
 returns-6 c = let s = c .before .before .before .before .before .before .before in root-of-own-bits (s .args .x) (held s) refl (c .root-of-bits .ensures)
 
 float-to-bits-digits : tie.Need-float-to-bits-digits
-float-to-bits-digits c = not-nan _ (c .if6 .left)
+float-to-bits-digits c = equal-to-itself _ (c .if6 .left)
 
 add-root-of-bits : tie.Need-add-root-of-bits
 add-root-of-bits c = search needs

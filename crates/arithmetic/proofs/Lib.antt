@@ -1,0 +1,4 @@
+pub mod Tabulate
+pub mod Product
+pub mod UpToZero
+pub mod Points

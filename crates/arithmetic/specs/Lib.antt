@@ -1,0 +1,4 @@
+pub mod Vector
+pub mod Arithmetic
+pub mod Product
+pub mod SameList
