@@ -1,0 +1,120 @@
+"""The bytes of a list: its cases, their fields and answers, little-endian. lists/README.md describes them.
+
+A case is a kind, the inputs by name, and the result by name. Counts are whole numbers and reals are bit patterns, both as int.
+"""
+
+import struct
+from collections import namedtuple
+
+LARGEST_CASE = 65536
+
+ROOT, FROM_CSR_PARTS, GERSHGORIN_BOUND_CSR, APPLY_INTO_SLICE, COPY_FROM, AXPY_INTO_SLICE = range(1, 7)
+
+# What an answer says: its number in document 01's table (0: accepted) and its values.
+Answer = namedtuple("Answer", "number values")
+Case = namedtuple("Case", "kind inputs result")
+
+# The fields of a kind, each a name and a type. `bound` stands only behind an answer that accepts.
+Kind = namedtuple("Kind", "name inputs result")
+
+NETWORK = (("n", "count"), ("row starts", "counts"), ("columns", "columns"), ("values", "reals"))
+
+KINDS = {
+    ROOT: Kind("sqrt", (("x", "real"),), (("root", "real"),)),
+    FROM_CSR_PARTS: Kind("from_csr_parts", NETWORK, (("answer", "answer"),)),
+    GERSHGORIN_BOUND_CSR: Kind("gershgorin_bound_csr", NETWORK, (("answer", "answer"), ("bound", "real"))),
+    APPLY_INTO_SLICE: Kind(
+        "apply_into_slice",
+        NETWORK + (("signal", "reals"), ("output", "reals")),
+        (("answer", "answer"), ("output", "reals")),
+    ),
+    COPY_FROM: Kind("copy_from", (("target", "reals"), ("source", "reals")), (("answer", "answer"), ("target", "reals"))),
+    AXPY_INTO_SLICE: Kind(
+        "axpy_into_slice",
+        (("target", "reals"), ("alpha", "real"), ("source", "reals")),
+        (("answer", "answer"), ("target", "reals")),
+    ),
+}
+
+# struct's letter for a number of each type, and for the elements of a slice of each type.
+NUMBERS = {"count": "Q", "real": "Q"}
+ELEMENTS = {"counts": "Q", "columns": "I", "reals": "Q"}
+
+
+def encode_field(type_, value):
+    if type_ in NUMBERS:
+        return struct.pack("<" + NUMBERS[type_], value)
+    if type_ == "answer":
+        return struct.pack(f"<HH{len(value.values)}Q", value.number, len(value.values), *value.values)
+    return struct.pack(f"<I{len(value)}{ELEMENTS[type_]}", len(value), *value)
+
+
+def encode_fields(fields, values):
+    return b"".join(encode_field(type_, values[name]) for name, type_ in fields if name in values)
+
+
+def encode(kind, fields):
+    return struct.pack("<HI", kind, len(fields)) + fields
+
+
+def encode_inputs(kind, inputs):
+    """The case without its result, as the oracle reads it."""
+    return encode(kind, encode_fields(KINDS[kind].inputs, inputs))
+
+
+def encode_case(case):
+    shape = KINDS[case.kind]
+    bytes_ = encode(case.kind, encode_fields(shape.inputs, case.inputs) + encode_fields(shape.result, case.result))
+    if len(bytes_) > LARGEST_CASE:
+        raise ValueError(f"a case of {shape.name} has {len(bytes_)} bytes")
+    return bytes_
+
+
+class Reader:
+    """Bytes, read from the front."""
+
+    def __init__(self, bytes_):
+        self.bytes, self.at = bytes_, 0
+
+    def numbers(self, form):
+        values = struct.unpack_from("<" + form, self.bytes, self.at)
+        self.at += struct.calcsize("<" + form)
+        return list(values)
+
+    def field(self, type_):
+        if type_ in NUMBERS:
+            return self.numbers(NUMBERS[type_])[0]
+        if type_ == "answer":
+            number, length = self.numbers("HH")
+            return Answer(number, self.numbers(f"{length}Q"))
+        return self.numbers(f"{self.numbers('I')[0]}{ELEMENTS[type_]}")
+
+    def fields(self, fields):
+        values = {}
+        for name, type_ in fields:
+            if name == "bound" and values["answer"].number != 0:
+                continue
+            values[name] = self.field(type_)
+        return values
+
+
+def decode_result(kind, bytes_):
+    reader = Reader(bytes_)
+    result = reader.fields(KINDS[kind].result)
+    if reader.at != len(bytes_):
+        raise ValueError(f"a result of {KINDS[kind].name} has {len(bytes_) - reader.at} bytes too many")
+    return result
+
+
+def decode(bytes_):
+    """The cases of a list, one after the other."""
+    at = 0
+    while at < len(bytes_):
+        kind, length = struct.unpack_from("<HI", bytes_, at)
+        fields = bytes_[at + 6 : at + 6 + length]
+        if len(fields) != length or length + 6 > LARGEST_CASE:
+            raise ValueError(f"the case at byte {at} has a wrong length, {length}")
+        reader = Reader(fields)
+        inputs = reader.fields(KINDS[kind].inputs)
+        yield Case(kind, inputs, decode_result(kind, fields[reader.at :]))
+        at += 6 + length

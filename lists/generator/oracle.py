@@ -1,0 +1,80 @@
+"""Asks the published Rust and holds its answers against the reference, case by case."""
+
+import subprocess
+import sys
+
+from ieee import is_nan, to_float
+from list_format import KINDS, ROOT, Answer, Case, Reader, decode_result, encode_inputs
+from reference import ROWS_OF_REALS, result
+
+# Differences between the Rust and document 01 that it lists: where the reference alone decides.
+REFERENCE_ALONE = {6: "the Rust has no row 6", 10: "the Rust only asserts lengths"}
+
+
+def replies(program, inputs):
+    """The Rust's result of each case, None where it panicked. `inputs` are pairs of a kind and inputs."""
+    asked = b"".join(encode_inputs(kind, fields) for kind, fields in inputs)
+    run = subprocess.run([program], input=asked, stdout=subprocess.PIPE, check=True)
+    reader = Reader(run.stdout)
+    for kind, _ in inputs:
+        answered, length = reader.numbers("BI")
+        reply = run.stdout[reader.at : reader.at + length]
+        reader.at += length
+        yield decode_result(kind, reply) if answered else None
+
+
+class Difference(Exception):
+    pass
+
+
+def agreed_real(reference, rust):
+    """The Rust's real, which must be the reference's; of two NaNs the reference's bits."""
+    if is_nan(reference) and is_nan(rust):
+        return reference
+    if reference != rust:
+        raise Difference(f"{rust:016x} where the reference has {reference:016x}")
+    return rust
+
+
+def agreed_answer(reference, rust):
+    """The Rust's answer, which must be the reference's. A count that the Rust reports as a real is the reference's count."""
+    if rust.number != reference.number or len(rust.values) != len(reference.values):
+        raise Difference(f"answer {rust} where the reference has {reference}")
+    if reference.number in ROWS_OF_REALS:
+        return Answer(rust.number, [agreed_real(*pair) for pair in zip(reference.values, rust.values)])
+    if [float(count) for count in reference.values] != [to_float(value) for value in rust.values]:
+        raise Difference(f"counts of {rust} where the reference has {reference}")
+    return reference
+
+
+def agreed(reference, rust):
+    """The result that both give, field by field."""
+    both = {}
+    for name, value in reference.items():
+        if name == "answer":
+            both[name] = agreed_answer(value, rust[name])
+        elif isinstance(value, list):
+            if len(value) != len(rust[name]):
+                raise Difference(f"{name} of another length")
+            both[name] = [agreed_real(*pair) for pair in zip(value, rust[name])]
+        else:
+            both[name] = agreed_real(value, rust[name])
+    return both
+
+
+def settle(program, inputs):
+    """The cases with their results, and how many of each kind both gave. Stops at a difference that 01 does not list."""
+    cases, by_both = [], {}
+    for (kind, fields), rust in zip(inputs, replies(program, inputs)):
+        reference = result(kind, fields)
+        if kind != ROOT and reference["answer"].number in REFERENCE_ALONE:
+            cases.append(Case(kind, fields, reference))
+            continue
+        try:
+            if rust is None:
+                raise Difference("a panic")
+            cases.append(Case(kind, fields, agreed(reference, rust)))
+        except Difference as difference:
+            sys.exit(f"lists: the Rust's {KINDS[kind].name} gives {difference}\nlists: on {fields}")
+        by_both[kind] = by_both.get(kind, 0) + 1
+    return cases, by_both

@@ -1,0 +1,128 @@
+//! The calls of the published Rust, one for each kind of case.
+
+use core::arch::asm;
+
+use semiflow::{
+    access,
+    graph::{Laplacian, LaplacianKind},
+    state::State,
+    SemiflowError,
+};
+
+use crate::fields::{answer, push_slice, Fields, Reply};
+
+type Call = fn(&mut Fields) -> Reply;
+
+pub fn of_kind(kind: u16) -> Option<Call> {
+    match kind {
+        1 => Some(root),
+        2 => Some(from_csr_parts),
+        3 => Some(gershgorin_bound_csr),
+        4 => Some(apply_into_slice),
+        5 => Some(copy_from),
+        6 => Some(axpy_into_slice),
+        _ => None,
+    }
+}
+
+/// The texts of the Rust's refusals and their numbers in document 01's table.
+const NUMBERS: [(&str, u16); 5] = [
+    ("from_csr_parts: row_ptr.len() must equal n_nodes+1", 1),
+    ("from_csr_parts: row_ptr not monotone non-decreasing", 2),
+    ("from_csr_parts: col_idx.len()/vals.len() must equal row_ptr[n_nodes]", 3),
+    ("from_csr_parts: col_idx entry >= n_nodes", 4),
+    ("from_csr_parts: non-finite matrix entry", 5),
+];
+
+fn refused(error: &SemiflowError) -> Reply {
+    if let SemiflowError::DomainViolation { what, value } = error {
+        if let Some((_, number)) = NUMBERS.iter().find(|(text, _)| text == what) {
+            return Reply::Answer(answer(*number, &[*value]));
+        }
+    }
+    Reply::Unknown(error.to_string())
+}
+
+/// The root by the machine's instruction. The Rust's own `sqrt` must agree.
+fn root(inputs: &mut Fields) -> Reply {
+    let x = inputs.real();
+    let root: f64;
+    // SAFETY: the instruction reads one register and writes another, and nothing else.
+    unsafe { asm!("sqrtsd {0}, {1}", lateout(xmm_reg) root, in(xmm_reg) x, options(pure, nomem, nostack)) };
+    let of_rust = num_traits_sqrt(x);
+    assert!(root.to_bits() == of_rust.to_bits() || root.is_nan() && of_rust.is_nan());
+    Reply::Answer(root.to_le_bytes().to_vec())
+}
+
+/// `sqrt` as the published files have it, through their float trait.
+fn num_traits_sqrt<F: semiflow::SemiflowFloat>(x: F) -> F {
+    x.sqrt()
+}
+
+/// n, row starts, columns, values.
+fn laplacian(inputs: &mut Fields) -> Result<Laplacian<f64>, SemiflowError> {
+    let n = inputs.count();
+    let (row_ptr, col_idx, vals) = (inputs.counts(), inputs.columns(), inputs.reals());
+    Laplacian::from_csr_parts(n, row_ptr, col_idx, vals, LaplacianKind::GeneralSymmetric)
+}
+
+fn from_csr_parts(inputs: &mut Fields) -> Reply {
+    match laplacian(inputs) {
+        Ok(_) => Reply::Answer(answer(0, &[])),
+        Err(error) => refused(&error),
+    }
+}
+
+fn gershgorin_bound_csr(inputs: &mut Fields) -> Reply {
+    match laplacian(inputs) {
+        Ok(accepted) => {
+            let mut bytes = answer(0, &[]);
+            bytes.extend(accepted.spectral_radius_bound().to_le_bytes());
+            Reply::Answer(bytes)
+        }
+        Err(error) => refused(&error),
+    }
+}
+
+/// Accepted, with one slice afterwards.
+fn accepted(slice: &[f64]) -> Reply {
+    let mut bytes = answer(0, &[]);
+    push_slice(&mut bytes, slice);
+    Reply::Answer(bytes)
+}
+
+/// A refusal, with the slice as it was.
+fn refused_unchanged(error: &SemiflowError, slice: &[f64]) -> Reply {
+    match refused(error) {
+        Reply::Answer(mut bytes) => {
+            push_slice(&mut bytes, slice);
+            Reply::Answer(bytes)
+        }
+        unknown => unknown,
+    }
+}
+
+fn apply_into_slice(inputs: &mut Fields) -> Reply {
+    let checked = laplacian(inputs);
+    let (src, mut dst) = (inputs.reals(), inputs.reals());
+    match checked {
+        Ok(laplacian) => {
+            laplacian.apply_into_slice(&src, &mut dst);
+            accepted(&dst)
+        }
+        Err(error) => refused_unchanged(&error, &dst),
+    }
+}
+
+fn copy_from(inputs: &mut Fields) -> Reply {
+    let mut target = access::signal_of(&inputs.reals());
+    target.copy_from(&access::signal_of(&inputs.reals()));
+    accepted(target.values())
+}
+
+fn axpy_into_slice(inputs: &mut Fields) -> Reply {
+    let mut target = access::signal_of(&inputs.reals());
+    let alpha = inputs.real();
+    access::axpy_into_slice(&mut target, alpha, &inputs.reals());
+    accepted(target.values())
+}
