@@ -59,11 +59,10 @@ static uint64_t next(void) { /* splitmix64 */
     return z ^ (z >> 31);
 }
 
-static void fill(const char *what, int narrow) {
+/* values above zero whose exponent field is least or one of the `fields` from there on */
+static void fill(const char *what, uint64_t least, uint64_t fields) {
     for (int i = 0; i < VALUES; i++) {
-        /* any normal value above zero; or one from 2^-8 up to 2^8, as weights are */
-        uint64_t field = narrow ? 1015 + next() % 16 : 1 + next() % 2046;
-        uint64_t bits = field << 52 | next() >> 12;
+        uint64_t bits = (least + next() % fields) << 52 | next() >> 12;
         memcpy(&values[i], &bits, 8);
         expected[i] = sqrt(values[i]);
     }
@@ -71,8 +70,10 @@ static void fill(const char *what, int narrow) {
 }
 
 int main(void) {
-    for (int narrow = 1; narrow >= 0; narrow--) {
-        fill(narrow ? "values from 2^-8 to 2^8" : "normal values of any exponent", narrow);
+    for (int set = 0; set < 3; set++) {
+        if (set == 0) fill("values from 2^-8 to 2^8", 1015, 16);
+        if (set == 1) fill("normal values of any exponent", 1, 2046);
+        if (set == 2) fill("subnormal values", 0, 1);
         measure("  the machine's instruction, in a C loop", hardware);
         measure("  sqrt, called from C for each value", called);
         measure("  sqrt, in a loop", bench_sqrt_each);

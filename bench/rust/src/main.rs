@@ -1,0 +1,82 @@
+//! The row product beside the published Rust's, in one process and on the same networks: the product alone, the whole checked
+//! call, and the pattern check alone. The results must be the Rust's bit for bit; else it stops.
+
+mod archive;
+mod networks;
+mod timing;
+
+use std::hint::black_box;
+
+use networks::{Network, Random, Shape};
+use semiflow::graph::{Laplacian, LaplacianKind};
+
+/// The Rust's product, a call of its own as ours are.
+#[inline(never)]
+fn rust_product(laplacian: &Laplacian<f64>, src: &[f64], dst: &mut [f64]) {
+    laplacian.apply_into_slice(src, dst);
+}
+
+/// Stops where a call of ours refused, or gave other bits than the Rust.
+fn compare(what: &str, number: u32, ours: &[f64], rust: &[f64]) {
+    if number != 0 {
+        eprintln!("bench: {what} refuses with {number} what the Rust accepts");
+        std::process::exit(1);
+    }
+    if let Some(i) = (0..rust.len()).find(|&i| ours[i].to_bits() != rust[i].to_bits()) {
+        let (ours, rust) = (ours[i].to_bits(), rust[i].to_bits());
+        eprintln!("bench: {what} gives {ours:016x} at place {i} where the Rust gives {rust:016x}");
+        std::process::exit(1);
+    }
+}
+
+/// Nanoseconds of the Rust's product, our product, our whole call and our pattern check.
+fn measure(network: &Network) -> [f64; 4] {
+    let Network { n, row_ptr, col_idx, vals, signal } = network;
+    let laplacian = Laplacian::from_csr_parts(
+        *n,
+        row_ptr.clone(),
+        col_idx.clone(),
+        vals.clone(),
+        LaplacianKind::GeneralSymmetric,
+    )
+    .expect("the Rust accepts the network");
+    let (mut rust, mut alone, mut whole) = (vec![0.0; *n], vec![1.0; *n], vec![1.0; *n]);
+
+    rust_product(&laplacian, signal, &mut rust);
+    compare("from_csr_parts", archive::from_csr_parts(*n, row_ptr, col_idx, vals), &[], &[]);
+    // SAFETY: the pattern check accepted the network, and the signals have n elements.
+    unsafe { archive::product(row_ptr, col_idx, vals, signal, &mut alone) };
+    compare("product", 0, &alone, &rust);
+    let number = archive::apply_into_slice(*n, row_ptr, col_idx, vals, signal, &mut whole);
+    compare("apply_into_slice", number, &whole, &rust);
+
+    timing::medians(&mut [
+        &mut || rust_product(black_box(&laplacian), black_box(signal), black_box(&mut rust)),
+        // SAFETY: as above.
+        &mut || unsafe { archive::product(row_ptr, col_idx, vals, black_box(signal), black_box(&mut alone)) },
+        &mut || {
+            black_box(archive::apply_into_slice(*n, row_ptr, col_idx, vals, black_box(signal), black_box(&mut whole)));
+        },
+        &mut || {
+            black_box(archive::from_csr_parts(*n, row_ptr, col_idx, black_box(vals)));
+        },
+    ])
+}
+
+fn main() {
+    let mut random = Random(20_260_101);
+    println!("row product: nanoseconds a call, the median of many runs, and ratios to the Rust's time");
+    for shape in [Shape::Banded, Shape::Scattered] {
+        println!("{}", shape.name());
+        println!("{:>8} {:>10} {:>10} {:>6} {:>12} {:>6} {:>14} {:>6}", "n", "Rust", "product", "", "whole call", "", "pattern check", "");
+        for n in [5, 64, 1024, 4096] {
+            let [rust, alone, whole, check] = measure(&Network::new(shape, n, &mut random));
+            println!(
+                "{n:>8} {rust:>10.1} {alone:>10.1} {:>6.2} {whole:>12.1} {:>6.2} {check:>14.1} {:>6.2}",
+                alone / rust,
+                whole / rust,
+                check / rust
+            );
+        }
+    }
+}

@@ -1,0 +1,33 @@
+//! Times of several functions on the same input, measured in turn.
+
+use std::time::Instant;
+
+const RUNS: usize = 401;
+/// What one run of a function should last, in nanoseconds.
+const RUN: f64 = 100_000.0;
+
+fn run(function: &mut dyn FnMut(), calls: usize) -> f64 {
+    let begin = Instant::now();
+    for _ in 0..calls {
+        function();
+    }
+    begin.elapsed().as_nanos() as f64 / calls as f64
+}
+
+/// Nanoseconds a call of each function: the median of many runs. In each turn every function has one run.
+pub fn medians<const N: usize>(functions: &mut [&mut dyn FnMut(); N]) -> [f64; N] {
+    let calls = functions.each_mut().map(|function| {
+        run(function, 10);
+        (RUN / run(function, 100).max(1.0)).ceil() as usize
+    });
+    let mut times = [(); N].map(|()| Vec::with_capacity(RUNS));
+    for _ in 0..RUNS {
+        for (k, function) in functions.iter_mut().enumerate() {
+            times[k].push(run(function, calls[k]));
+        }
+    }
+    times.map(|mut of_one| {
+        of_one.sort_by(f64::total_cmp);
+        of_one[RUNS / 2]
+    })
+}

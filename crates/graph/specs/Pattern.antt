@@ -1,0 +1,33 @@
+-- What an accepted pattern and an accepted Laplacian have (01, part 2). proofs/Sound.antt shows that the checks accept
+-- exactly these. Assumes nothing.
+use mathlib.Core.Path.{_≡_}
+use mathlib.Core.Bool.{true}
+use mathlib.Core.List.{List}
+use Prim.Native.Nat.{ℕ, _+_, _≤_, _<_}
+use lib.ListN.{length, getD}
+use lib.Ieee.{Float, nan}
+use lib.Ieee.Scale.{finite}
+
+-- the row starts of n rows over the given number of entries. The first need not be 0; entries before it belong to no row.
+pub record Rows (n : ℕ) (starts : List ℕ) (entries : ℕ) : Type 0 where
+  -- at most 4,096 rows and 65,535 entries (row 6)
+  pub few-rows : n ≤ 4096
+  pub few-entries : entries ≤ 65535
+  -- n + 1 row starts, since row i goes from start i up to start i + 1 (row 1)
+  pub count : length starts ≡ n + 1
+  -- which never fall (row 2)
+  pub rising : (i : ℕ) → i < n → getD starts i 0 ≤ getD starts (i + 1) 0
+  -- and of which the last is the number of entries (row 3), so that every row ends within them
+  pub last : getD starts n 0 ≡ entries
+  pub within : (i : ℕ) → i ≤ n → getD starts i 0 ≤ entries
+
+-- a pattern, the row starts and columns of a Laplacian on n nodes: every column, in a row or not, is a node (row 4)
+pub record Pattern (n : ℕ) (starts cols : List ℕ) : Type 0 where
+  pub rows : Rows n starts (length cols)
+  pub inside : (k : ℕ) → k < length cols → getD cols k 0 < n
+
+-- a Laplacian: a pattern with a value for each entry (row 3), every one finite (row 5)
+pub record Laplacian (n : ℕ) (starts cols : List ℕ) (vals : List Float) : Type 0 where
+  pub pattern : Pattern n starts cols
+  pub count : length vals ≡ length cols
+  pub finite-values : (k : ℕ) → k < length vals → finite (getD vals k nan) ≡ true
