@@ -63,18 +63,16 @@ def agreed(reference, rust):
 
 
 def settle(program, inputs):
-    """The cases with their results, and how many of each kind both gave. Stops at a difference that 01 does not list."""
-    cases, by_both = [], {}
+    """The cases with their results. Stops at a difference between the Rust and the reference that 01 does not list."""
+    cases = []
     for (kind, fields), rust in zip(inputs, replies(program, inputs)):
-        reference = result(kind, fields)
-        if kind != ROOT and reference["answer"].number in REFERENCE_ALONE:
-            cases.append(Case(kind, fields, reference))
-            continue
-        try:
-            if rust is None:
-                raise Difference("a panic")
-            cases.append(Case(kind, fields, agreed(reference, rust)))
-        except Difference as difference:
-            sys.exit(f"lists: the Rust's {KINDS[kind].name} gives {difference}\nlists: on {fields}")
-        by_both[kind] = by_both.get(kind, 0) + 1
-    return cases, by_both
+        expected = result(kind, fields)
+        if kind == ROOT or expected["answer"].number not in REFERENCE_ALONE:
+            try:
+                if rust is None:
+                    raise Difference("a panic")
+                expected = agreed(expected, rust)
+            except Difference as difference:
+                sys.exit(f"lists: the Rust's {KINDS[kind].name} gives {difference}\nlists: on {fields}")
+        cases.append(Case(kind, fields, expected))
+    return cases

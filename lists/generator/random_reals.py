@@ -64,7 +64,9 @@ def about_root_of_largest(random):
 
 def tiny(random):
     """A subnormal value or a small normal one."""
-    return with_fields(random, 0, 0) >> random.below(50) if random.chance(50) else with_fields(random, 1, 60)
+    if random.chance(50):
+        return compose(random.below(2), 0, random.below(1 << 52) >> random.below(50))
+    return with_fields(random, 1, 60)
 
 
 def about_root_of_least(random):
@@ -89,7 +91,7 @@ def finite_list(random, length, sort):
     return [random.choice(ZEROS) if random.chance(8) else sort(random) for _ in range(length)]
 
 
-def signal(random, length, sort, percent_special=0):
+def signal_list(random, length, sort, percent_special=0):
     """A signal: finite values of one sort, and here and there a NaN, an infinity or a zero."""
     values = finite_list(random, length, sort)
     return [special(random) if random.chance(percent_special) else value for value in values]

@@ -26,14 +26,15 @@ def around(bits):
 
 
 def perfect_squares(random):
-    """Squares of whole numbers of up to 26 digits, times a power of four, with their neighbours."""
+    """Squares of whole numbers of up to 26 digits, times a power of four, with their neighbours; also as subnormal values."""
     for r in range(1, 33):
         yield from around(to_bits(float(r * r)))
-    for length in range(2, 27):
-        for _ in range(4):
+        yield from around(r * r)
+    for length in range(6, 27):
+        for _ in range(3):
             r = 1 << length - 1 | random.below(1 << length - 1)
-            power = random.between(-500, 400)
-            yield from around(to_bits(float(r * r) * 4.0**power if power > -480 else float(r * r) * 4.0**-510))
+            yield from around(to_bits(float(r * r) * 4.0 ** random.between(-480, 480)))
+        yield from around(r * r)
 
 
 def value(significand, exponent):
@@ -52,7 +53,7 @@ def scaled_to(radicand, exponent_halved):
 
 
 def next_to_a_middle(random):
-    """(r + 1/2)² for r of 53 digits, rounded to 53 digits downward and upward. Below √2·2^52 the exponent is even, above it odd."""
+    """(r + 1/2)² for r of 53 digits, rounded to 53 digits both ways. Below √2·2^52 the exponent is even, above it odd."""
     turn = 0x16A09E667F3BCD  # √2·2^52
     for low, high in ((1 << 52, turn), (turn, 1 << 53)):
         for _ in range(220):

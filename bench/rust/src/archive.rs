@@ -58,7 +58,14 @@ pub fn from_csr_parts(n: usize, row_ptr: &[usize], col_idx: &[u32], vals: &[f64]
 }
 
 /// The whole call: the pattern check, the lengths, then the product. 0, or the number of the row that refuses.
-pub fn apply_into_slice(n: usize, row_ptr: &[usize], col_idx: &[u32], vals: &[f64], src: &[f64], dst: &mut [f64]) -> u32 {
+pub fn apply_into_slice(
+    n: usize,
+    row_ptr: &[usize],
+    col_idx: &[u32],
+    vals: &[f64],
+    src: &[f64],
+    dst: &mut [f64],
+) -> u32 {
     // SAFETY: each pointer and length is a slice's; the call reads within the first four and writes within the last only.
     unsafe {
         exported::bench_apply_into_slice(

@@ -31,7 +31,13 @@ fn compare(what: &str, number: u32, ours: &[f64], rust: &[f64]) {
 
 /// Nanoseconds of the Rust's product, our product, our whole call and our pattern check.
 fn measure(network: &Network) -> [f64; 4] {
-    let Network { n, row_ptr, col_idx, vals, signal } = network;
+    let Network {
+        n,
+        row_ptr,
+        col_idx,
+        vals,
+        signal,
+    } = network;
     let laplacian = Laplacian::from_csr_parts(
         *n,
         row_ptr.clone(),
@@ -43,7 +49,12 @@ fn measure(network: &Network) -> [f64; 4] {
     let (mut rust, mut alone, mut whole) = (vec![0.0; *n], vec![1.0; *n], vec![1.0; *n]);
 
     rust_product(&laplacian, signal, &mut rust);
-    compare("from_csr_parts", archive::from_csr_parts(*n, row_ptr, col_idx, vals), &[], &[]);
+    compare(
+        "from_csr_parts",
+        archive::from_csr_parts(*n, row_ptr, col_idx, vals),
+        &[],
+        &[],
+    );
     // SAFETY: the pattern check accepted the network, and the signals have n elements.
     unsafe { archive::product(row_ptr, col_idx, vals, signal, &mut alone) };
     compare("product", 0, &alone, &rust);
@@ -55,7 +66,14 @@ fn measure(network: &Network) -> [f64; 4] {
         // SAFETY: as above.
         &mut || unsafe { archive::product(row_ptr, col_idx, vals, black_box(signal), black_box(&mut alone)) },
         &mut || {
-            black_box(archive::apply_into_slice(*n, row_ptr, col_idx, vals, black_box(signal), black_box(&mut whole)));
+            black_box(archive::apply_into_slice(
+                *n,
+                row_ptr,
+                col_idx,
+                vals,
+                black_box(signal),
+                black_box(&mut whole),
+            ));
         },
         &mut || {
             black_box(archive::from_csr_parts(*n, row_ptr, col_idx, black_box(vals)));
@@ -68,7 +86,7 @@ fn main() {
     println!("row product: nanoseconds a call, the median of many runs, and ratios to the Rust's time");
     for shape in [Shape::Banded, Shape::Scattered] {
         println!("{}", shape.name());
-        println!("{:>8} {:>10} {:>10} {:>6} {:>12} {:>6} {:>14} {:>6}", "n", "Rust", "product", "", "whole call", "", "pattern check", "");
+        println!("       n       Rust    product  ratio   whole call  ratio  pattern check  ratio");
         for n in [5, 64, 1024, 4096] {
             let [rust, alone, whole, check] = measure(&Network::new(shape, n, &mut random));
             println!(

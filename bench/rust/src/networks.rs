@@ -65,6 +65,12 @@ impl Network {
         }
         let vals = col_idx.iter().map(|_| random.real()).collect();
         let signal = (0..n).map(|_| random.real()).collect();
-        Self { n, row_ptr, col_idx, vals, signal }
+        Self {
+            n,
+            row_ptr,
+            col_idx,
+            vals,
+            signal,
+        }
     }
 }

@@ -1,5 +1,6 @@
 -- The number and the values that document 01 gives each refusal (the table of "What a call answers"). A promise names
 -- the case; proofs/Refusals.antt shows that it says as much as the number and the values. Assumes nothing.
+use mathlib.Core.Path.{_≡_}
 use mathlib.Core.List.{List, [], _∷_}
 use Prim.Native.Nat.{ℕ}
 use lib.Ieee.{Float}
@@ -68,3 +69,8 @@ valuesOf (Malformed k) = count k ∷ []
 abbrev pub answerOf : Checked → List Carried
 answerOf Accepted = []
 answerOf (Refused r) = count (numberOf r) ∷ valuesOf r
+
+-- What a call promises of its answer: it has the number and the values that the table gives the fault.
+-- A record, and not the equation itself, so that its two answers can be implicit arguments.
+pub record Answers (answer fault : Checked) : Type 0 where
+  pub equal : answerOf answer ≡ answerOf fault

@@ -3,6 +3,7 @@
 // values of each.
 ghost use mathlib.Core.Path.{_≡_};
 ghost use Rattle.error.specs.Lengths.{lengthFault};
+ghost use Rattle.error.specs.Refusals.{Answers};
 
 // One case for each row, in the table's order. A case carries whole counts or reals, never a count turned real.
 pub enum Refusal {
@@ -60,7 +61,7 @@ pub enum Checked {
 
 // Row 10 of one slice: its length is n.
 pub fn check_length(length: usize, n: usize) -> Checked
-    ensures { λ r. ⌜ r ≡ lengthFault length n ⌝ }
+    ensures { λ r. ⌜ Answers r (lengthFault length n) ⌝ }
 {
     if length == n {
         Checked::Accepted

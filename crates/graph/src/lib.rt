@@ -1,15 +1,23 @@
 // Laplacians of a network in compressed sparse rows (graph.rs, graph_assemble_helpers.rs): n nodes, n + 1 row starts, and
 // a column and a value for each entry. Row i has the entries from its start up to the next row's start.
 ghost use mathlib.Core.Path.{_≡_};
+ghost use lib.Ieee.{binary64};
+ghost use Rattle.error.specs.Refusals.{Answers};
 ghost use Rattle.graph.specs.PatternChecks.{patternFault, csrFault};
+ghost use Rattle.graph.specs.Gershgorin.{gershgorinBound};
+ghost use Rattle.graph.specs.BoundAnswer.{BoundAnswers};
+ghost use Rattle.graph.specs.ProductOutcome.{productOutcome};
 use error::Checked;
+use error::Refusal;
+use error::check_length;
 
 mod check;
+pub mod kernel;
 
 // Whether the parts make up a Laplacian: rows 6 and 1 to 5, in that order. The first row start need not be 0; the
 // entries before it belong to no row, and are checked like the others.
 pub fn from_csr_parts(n: usize, row_ptr: &[usize], col_idx: &[u32], vals: &[f64]) -> Checked
-    ensures { λ r. ⌜ r ≡ csrFault n (now («row_ptr» .entry)) (now («col_idx» .entry)) (now (vals .entry)) ⌝ }
+    ensures { λ r. ⌜ Answers r (csrFault n (now («row_ptr» .entry)) (now («col_idx» .entry)) (now (vals .entry))) ⌝ }
 {
     let shape = check::check_shape(n, row_ptr, col_idx.len());
     let Checked::Accepted = shape else {
@@ -28,11 +36,62 @@ pub fn from_csr_parts(n: usize, row_ptr: &[usize], col_idx: &[u32], vals: &[f64]
 
 // The same of a pattern, which has no values: rows 6 and 1 to 4, row 3 for the columns alone.
 pub fn check_pattern(n: usize, row_ptr: &[usize], col_idx: &[u32]) -> Checked
-    ensures { λ r. ⌜ r ≡ patternFault n (now («row_ptr» .entry)) (now («col_idx» .entry)) ⌝ }
+    ensures { λ r. ⌜ Answers r (patternFault n (now («row_ptr» .entry)) (now («col_idx» .entry))) ⌝ }
 {
     let shape = check::check_shape(n, row_ptr, col_idx.len());
     let Checked::Accepted = shape else {
         return shape;
     };
     check::check_columns(n, row_ptr, col_idx)
+}
+
+// What `gershgorin_bound_csr` answers: the bound, or why there is none.
+pub enum Bounded {
+    Bound(f64),
+    Refused(Refusal),
+}
+
+// The Gershgorin bound of a Laplacian, ρ̄ = max over the rows of Σ |value|, rounded as the Rust rounds it. Refused as
+// `from_csr_parts` refuses.
+pub fn gershgorin_bound_csr(n: usize, row_ptr: &[usize], col_idx: &[u32], vals: &[f64]) -> Bounded
+    ensures { λ r. ⌜ BoundAnswers r (csrFault n (now («row_ptr» .entry)) (now («col_idx» .entry)) (now (vals .entry)))
+        (gershgorinBound binary64 (now («row_ptr» .entry)) (now (vals .entry))) ⌝ }
+{
+    let checked = from_csr_parts(n, row_ptr, col_idx, vals);
+    let Checked::Refused(refusal) = checked else {
+        return Bounded::Bound(kernel::gershgorin(row_ptr, vals));
+    };
+    Bounded::Refused(refusal)
+}
+
+// dst becomes the product of the Laplacian with src: row i starts at +0 and adds value · src[column] in stored order.
+// Refused as `from_csr_parts` refuses; then 10 with the length of src, and with that of dst, where it is not n. A refusal
+// leaves dst as it was.
+pub fn apply_into_slice(
+    n: usize,
+    row_ptr: &[usize],
+    col_idx: &[u32],
+    vals: &[f64],
+    src: &[f64],
+    dst: &mut [f64],
+) -> Checked
+    ensures answer { λ r. let outcome = productOutcome n (now («row_ptr» .entry)) (now («col_idx» .entry)) (now (vals .entry))
+        (now (src .entry)) (now (dst .entry)) in ⌜ Answers r (outcome .answer) ⌝ }
+    ensures output { λ r. let outcome = productOutcome n (now («row_ptr» .entry)) (now («col_idx» .entry)) (now (vals .entry))
+        (now (src .entry)) (now (dst .entry)) in ⌜ now (dst .exit) ≡ outcome .output ⌝ }
+{
+    let laplacian = from_csr_parts(n, row_ptr, col_idx, vals);
+    let Checked::Accepted = laplacian else {
+        return laplacian;
+    };
+    let signal = check_length(src.len(), n);
+    let Checked::Accepted = signal else {
+        return signal;
+    };
+    let output = check_length(dst.len(), n);
+    let Checked::Accepted = output else {
+        return output;
+    };
+    kernel::product(row_ptr, col_idx, vals, src, dst);
+    Checked::Accepted
 }

@@ -2,6 +2,7 @@
 use mathlib.Core.Path.{sym, _∙_}
 use borrow.Author.Needs.{needs}
 use Rattle.error.proofs.Checks.{refused-here, accepted-then}
+use Rattle.error.proofs.Left.{answers}
 use Rattle.graph.specs.PatternChecks.{patternFault}
 use Rattle.graph.proofs.Sound.{shape-accepted}
 use Rattle.graph.proofs.check_pattern.Statement.{statement}
@@ -18,7 +19,9 @@ enum-told-2 c = search needs
 
 returns : tie.Need-returns
 unfolding patternFault
-returns c = refused-here _ _ _ _ (c .before .before .check-shape .ensures) (c .enum-told2 .given .1)
+returns c =
+    answers
+    (refused-here _ _ _ _ (c .before .before .check-shape .ensures) (c .enum-told2 .given .1))
 
 check-columns-requires : tie.Need-check-columns-requires
 check-columns-requires c κs =
@@ -27,8 +30,9 @@ check-columns-requires c κs =
 returns-2 : tie.Need-returns-2
 unfolding patternFault
 returns-2 c =
-    accepted-then _ _ _ _ (c .before .before .before .check-shape .ensures) (c .before .enum-told .given .1)
-    (c .check-columns .ensures)
+    answers
+    (accepted-then _ _ _ _ (c .before .before .before .check-shape .ensures) (c .before .enum-told .given .1)
+    (c .check-columns .ensures))
 
 pub check-pattern-spec : {M : Type 1} → statement M
 check-pattern-spec =

@@ -6,6 +6,7 @@ use native.Mathlib.Omega.{arith}
 use lib.ListN.{length}
 use borrow.Author.Needs.{needs}
 use Rattle.error.proofs.Checks.{refused-here, accepted-then}
+use Rattle.error.proofs.Left.{answers}
 use Rattle.graph.specs.Pattern.{Rows}
 use Rattle.graph.specs.PatternChecks.{csrFault}
 use Rattle.graph.proofs.Sound.{shape-accepted, rows-of-values}
@@ -30,7 +31,9 @@ enum-told-2 c = search needs
 
 returns : tie.Need-returns
 unfolding csrFault
-returns c = refused-here _ _ _ _ (c .before .before .check-shape .ensures) (c .enum-told2 .given .1)
+returns c =
+    answers
+    (refused-here _ _ _ _ (c .before .before .check-shape .ensures) (c .enum-told2 .given .1))
 
 mul-check-entry-count : tie.Need-mul-check-entry-count
 mul-check-entry-count c =
@@ -55,8 +58,9 @@ returns-2 : tie.Need-returns-2
 unfolding csrFault
 returns-2 c =
     let shape = c .before .before .before .before in
-    accepted-then _ _ _ _ (shape .before .before .check-shape .ensures) (shape .enum-told .given .1)
-    (refused-here _ _ _ _ (c .before .before .check-entry-count .ensures) (c .enum-told4 .given .1))
+    answers
+    (accepted-then _ _ _ _ (shape .before .before .check-shape .ensures) (shape .enum-told .given .1)
+    (refused-here _ _ _ _ (c .before .before .check-entry-count .ensures) (c .enum-told4 .given .1)))
 
 check-columns-requires : tie.Need-check-columns-requires
 check-columns-requires c κs = rows (c .before .before .before .before)
@@ -72,9 +76,10 @@ unfolding csrFault
 returns-3 c =
     let count = c .before .before .before in
     let shape = count .before .before .before .before in
-    accepted-then _ _ _ _ (shape .before .before .check-shape .ensures) (shape .enum-told .given .1)
+    answers
+    (accepted-then _ _ _ _ (shape .before .before .check-shape .ensures) (shape .enum-told .given .1)
     (accepted-then _ _ _ _ (count .before .before .check-entry-count .ensures) (count .enum-told3 .given .1)
-    (refused-here _ _ _ _ (c .before .before .check-columns .ensures) (c .enum-told6 .given .1)))
+    (refused-here _ _ _ _ (c .before .before .check-columns .ensures) (c .enum-told6 .given .1))))
 
 check-values-requires : tie.Need-check-values-requires
 check-values-requires c κs =
@@ -88,10 +93,11 @@ returns-4 c =
     let columns = c .before in
     let count = columns .before .before .before in
     let shape = count .before .before .before .before in
-    accepted-then _ _ _ _ (shape .before .before .check-shape .ensures) (shape .enum-told .given .1)
+    answers
+    (accepted-then _ _ _ _ (shape .before .before .check-shape .ensures) (shape .enum-told .given .1)
     (accepted-then _ _ _ _ (count .before .before .check-entry-count .ensures) (count .enum-told3 .given .1)
     (accepted-then _ _ _ _ (columns .before .before .check-columns .ensures) (columns .enum-told5 .given .1)
-    (c .check-values .ensures)))
+    (c .check-values .ensures))))
 
 pub from-csr-parts-spec : {M : Type 1} → statement M
 from-csr-parts-spec =

@@ -29,7 +29,10 @@ pub fn of_kind(kind: u16) -> Option<Call> {
 const NUMBERS: [(&str, u16); 5] = [
     ("from_csr_parts: row_ptr.len() must equal n_nodes+1", 1),
     ("from_csr_parts: row_ptr not monotone non-decreasing", 2),
-    ("from_csr_parts: col_idx.len()/vals.len() must equal row_ptr[n_nodes]", 3),
+    (
+        "from_csr_parts: col_idx.len()/vals.len() must equal row_ptr[n_nodes]",
+        3,
+    ),
     ("from_csr_parts: col_idx entry >= n_nodes", 4),
     ("from_csr_parts: non-finite matrix entry", 5),
 ];

@@ -1,0 +1,28 @@
+"""Writes the stored lists: make_lists.py ORACLE SEED. Run by lists/make, in the repository's folder."""
+
+import sys
+
+import networks
+import roots
+from count import describe
+from list_format import ROOT, encode_case
+from oracle import settle
+from random_reals import Random
+
+LISTS = {
+    "crates/replay_roots/stdin": lambda random: [(ROOT, fields) for fields in roots.inputs(random)],
+    "crates/replay_networks/stdin": networks.inputs,
+}
+
+
+def main(oracle, seed):
+    """Settles every case first, so that a difference leaves the stored lists as they were."""
+    settled = {path: settle(oracle, inputs(Random(seed))) for path, inputs in LISTS.items()}
+    for path, cases in settled.items():
+        with open(path, "wb") as file:
+            file.write(b"".join(encode_case(case) for case in cases))
+    for path in LISTS:
+        describe(path)
+
+
+main(sys.argv[1], int(sys.argv[2]))
