@@ -1,0 +1,5 @@
+pub mod Vectors
+pub mod Sign
+pub mod Linear
+pub mod Adjoint
+pub mod Integers
