@@ -9,7 +9,6 @@
 #include <time.h>
 
 double bench_sqrt(double x);
-void bench_sqrt_each(const double *src, size_t src_len, double *dst, size_t dst_len);
 void bench_sqrt_into_slice(const double *src, size_t src_len, double *dst, size_t dst_len);
 
 enum { VALUES = 4096, PASSES = 50, RUNS = 31 };
@@ -75,8 +74,7 @@ int main(void) {
         if (set == 1) fill("normal values of any exponent", 1, 2046);
         if (set == 2) fill("subnormal values", 0, 1);
         measure("  the machine's instruction, in a C loop", hardware);
-        measure("  sqrt, called from C for each value", called);
-        measure("  sqrt, in a loop", bench_sqrt_each);
+        measure("  sqrt, called for each value", called);
         measure("  sqrt_into_slice", bench_sqrt_into_slice);
     }
     return 0;
