@@ -9,5 +9,4 @@ pub mod Agree
 pub mod Formed
 pub mod FormedIsFinite
 pub mod PlainSum
-pub mod MinusZero
 pub mod VanishingCommutator

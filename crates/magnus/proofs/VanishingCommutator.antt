@@ -21,7 +21,7 @@ use Rattle.magnus.specs.Agree.{ProductsAgree, SamplesAgree, OfFormat}
 use Rattle.magnus.specs.Formed.{finiteVector}
 use Rattle.magnus.proofs.Agree.{agree-same, sum-fits}
 use Rattle.magnus.proofs.Formed.{finite-vector-is}
-use Rattle.magnus.proofs.MinusZero.{MinusZero, add-not-minus-zero, same-not-minus-zero}
+use Rattle.rounding.proofs.MinusZero.{MinusZero, add-not-minus-zero, same-not-minus-zero}
 
 module _ (f : Format) (n : ℕ) where
   open Arithmetic (vectors (ieee f) n) using (zero as zeros, _-_ as _⊖_)

@@ -6,3 +6,4 @@ pub mod Zeros
 pub mod Halving
 pub mod Sharp
 pub mod Nan
+pub mod MinusZero
