@@ -1,53 +1,15 @@
 // Reading a stored list of test cases from standard input. lists/README.md has the format: each case is its kind in 2 bytes, the length of
 // the rest in 4, and that many bytes of fields; all numbers are little-endian. Reads past the end of a case give 0.
-ghost use Prim.Native.Nat.{_≤_, _<_};
-ghost use lib.ListN.{length};
+use kernel::word16;
+use kernel::word32;
+
+pub mod kernel;
 
 // A case whose fields stand at the start of the buffer; or the list's end; or the point at which it is no list.
 pub enum Case {
     Fields(u64, usize),
     End,
     Broken,
-}
-
-// The byte at `at`, or 0 past the end.
-pub fn byte(bytes: &[u8], at: usize) -> u64
-    ensures { λ r. ⌜ r < 256 ⌝ }
-{
-    if at < bytes.len() {
-        bytes[at] as u64
-    } else {
-        0
-    }
-}
-
-// A number of 2 bytes.
-pub fn word16(bytes: &[u8], at: usize) -> u64
-    requires { ⌜ at ≤ 65536 ⌝ }
-    ensures { λ r. ⌜ r < 65536 ⌝ }
-{
-    byte(bytes, at) + 256 * byte(bytes, at + 1)
-}
-
-// A number of 4 bytes.
-pub fn word32(bytes: &[u8], at: usize) -> u64
-    requires { ⌜ at ≤ 65536 ⌝ }
-    ensures { λ r. ⌜ r < 4294967296 ⌝ }
-{
-    let low = byte(bytes, at) + 256 * byte(bytes, at + 1);
-    let high = byte(bytes, at + 2) + 256 * byte(bytes, at + 3);
-    low + 65536 * high
-}
-
-// A number of 8 bytes.
-pub fn word64(bytes: &[u8], at: usize) -> u64
-    requires { ⌜ at ≤ 65536 ⌝ }
-{
-    let a = byte(bytes, at) + 256 * byte(bytes, at + 1);
-    let b = byte(bytes, at + 2) + 256 * byte(bytes, at + 3);
-    let c = byte(bytes, at + 4) + 256 * byte(bytes, at + 5);
-    let d = byte(bytes, at + 6) + 256 * byte(bytes, at + 7);
-    a + 65536 * b + 4294967296 * (c + 65536 * d)
 }
 
 // Reads the next case, its fields to the start of the buffer.

@@ -3,8 +3,8 @@ use float::bits::from_bits;
 use float::bits::has_bits;
 use replay::Case;
 use replay::Tally;
+use replay::kernel::word64;
 use replay::next_case;
-use replay::word64;
 use square_root::sqrt;
 
 // Whether the case whose fields stand at the start of the buffer is right.

@@ -1,8 +1,8 @@
 -- `byte` meets its contract: an element of a slice of bytes is below 256. Assumes nothing.
 use native.Mathlib.Omega.{arith}
 use borrow.Author.Needs.{needs}
-use Rattle.replay.proofs.byte.Statement.{statement}
-use Rattle.replay.proofs.byte.Tie as tie
+use Rattle.replay.proofs.kernel.byte.Statement.{statement}
+use Rattle.replay.proofs.kernel.byte.Tie as tie
 
 shared-slice-read-result : tie.Need-shared-slice-read-result
 shared-slice-read-result c = search needs
