@@ -1,0 +1,4 @@
+pub mod Walks
+pub mod Taylor
+pub mod Positive
+pub mod StepSound

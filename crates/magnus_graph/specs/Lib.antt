@@ -1,0 +1,3 @@
+pub mod Omega4
+pub mod StepChecks
+pub mod AcceptedStep
