@@ -1,3 +1,4 @@
 pub mod Omega4
 pub mod StepChecks
 pub mod AcceptedStep
+pub mod StepOutcome
