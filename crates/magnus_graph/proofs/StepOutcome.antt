@@ -21,9 +21,9 @@ use Rattle.magnus.specs.Coefficients.{reciprocalFactorial}
 use Rattle.magnus.specs.Agree.{OfFormat}
 use Rattle.magnus.proofs.PlainSum.{samples-plain-sum}
 use Rattle.magnus_graph.specs.Omega4.{ValuedPattern, sqrt3Over12, expOmega4}
-use Rattle.magnus_graph.specs.AcceptedStep.{StepInputs}
+use Rattle.magnus_graph_helpers.specs.AcceptedStep.{StepInputs}
 use Rattle.magnus_graph.specs.StepOutcome.{StepInput, stepAnswer, Stepped}
-use Rattle.magnus_graph.proofs.StepSound.{step-accepted}
+use Rattle.magnus_graph_helpers.proofs.StepSound.{step-accepted}
 
 -- a Laplacian on n nodes, for a kernel that counts the nodes by the signal's length
 valued : (n l : ℕ) {starts cols : List ℕ} {vals : List Float} → l ≡ n → Laplacian n starts cols vals → ValuedPattern l starts cols vals

@@ -1,4 +1,2 @@
 pub mod Omega4
-pub mod StepChecks
-pub mod AcceptedStep
 pub mod StepOutcome

@@ -1,13 +1,12 @@
 // Steps of order 4 (magnus_graph.rs, magnus_graph_helpers.rs, magnus_graph_adjoint.rs; 01, parts 6 and 8). A step takes two samples, each
 // with its own n, row starts, columns and values.
-ghost use Rattle.magnus_graph.specs.StepChecks.{sample};
+ghost use Rattle.magnus_graph_helpers.specs.StepChecks.{sample};
 ghost use Rattle.magnus_graph.specs.StepOutcome.{stepInput, Stepped, forward, adjoint};
-use check::check_step;
 use error::Checked;
 use kernel::SQRT3_OVER_12_F64;
 use kernel::step4;
+use magnus_graph_helpers::check::check_step;
 
-pub mod check;
 pub mod kernel;
 
 // The forward step: dst becomes exp(Ω)·src by the Taylor sum of degree 4. Refused by rows 6 and 1 to 5 of each sample, 9, 7, 8, and 10 for the

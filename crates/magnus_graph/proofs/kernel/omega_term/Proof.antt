@@ -118,7 +118,9 @@ add-i : tie.Need-add-i Inv-loop μ-loop
 add-i c = omega arith
 
 loop-less : tie.Need-loop-less Inv-loop μ-loop
-loop-less c = fewer-turns _ _ (c .before .before .before .before .before .before .before .before .before .loop-test .taken)
+loop-less c =
+    let test = c .before .before .before .before .before .before .before .before .before in
+    fewer-turns _ _ (test .loop-test .taken)
 
 loop-again : tie.Need-loop-again Inv-loop μ-loop
 loop-again c =
@@ -149,9 +151,11 @@ same-length-2 c = c .before .loop .inv .1 .length-kept
 returns : tie.Need-returns Inv-loop μ-loop
 returns c =
     let start = c .before .before .before .before .before .before .before .before .before .before in
-    let length-out = start .pre .1 .1 .1 .2 in
     let inv = c .before .loop .inv in
-    (written-all (inv .0) (c .loop-test .left) (omega4-walk (ieee binary64) _ _ _ _ _ _ _), written-whole (inv .1) (omega arith) (rw length-out (term-walk (ieee binary64) _ _ _ _ _ _ _ _ _)))
+    let length-out = start .pre .1 .1 .1 .2 in (
+      written-all (inv .0) (c .loop-test .left) (omega4-walk (ieee binary64) _ _ _ _ _ _ _),
+      written-whole (inv .1) (omega arith) (rw length-out (term-walk (ieee binary64) _ _ _ _ _ _ _ _ _)),
+    )
 
 pub omega-term-spec : {M : Type 1} → statement M
 omega-term-spec =

@@ -1,5 +1,5 @@
--- `magnus_graph::kernel::step4` meets its contract: the signal is loaded into dst and the work slice, the four terms are
--- added to dst, and the first 5n elements, beyond which nothing was written, are cleared. Assumes nothing.
+-- `magnus_graph::kernel::step4` meets its contract: the signal is loaded into dst and the work slice, the four terms
+-- are added to dst, and the first 5n elements, beyond which nothing was written, are cleared. Assumes nothing.
 use mathlib.Core.Path.{refl}
 use native.Mathlib.Omega.{arith}
 use lib.Ieee.{binary64}
@@ -30,14 +30,16 @@ mul-clear : tie.Need-mul-clear
 mul-clear c =
     let summed = c .before .before .before .before .before in
     let work-loaded = summed .before .before .before .before .before in
-    let start = work-loaded .before .before .before .before .before .before .before .before .before .before .before .before .before .before .before in
+    let dst-loaded = work-loaded .before .before .before .before in
+    let start = dst-loaded .before .before .before .before .before .before .before .before .before .before .before in
     omega (arith, start .pre .1 .1 .1, start .good)
 
 clear-requires : tie.Need-clear-requires
 clear-requires c κs =
     let summed = c .before .before .before .before .before in
     let work-loaded = summed .before .before .before .before .before in
-    let start = work-loaded .before .before .before .before .before .before .before .before .before .before .before .before .before .before .before in
+    let dst-loaded = work-loaded .before .before .before .before in
+    let start = dst-loaded .before .before .before .before .before .before .before .before .before .before .before in
     omega (arith, start .pre .1 .1 .1, work-loaded .load2 .kept .0, summed .taylor4 .ensures .length-kept)
 
 same-length : tie.Need-same-length

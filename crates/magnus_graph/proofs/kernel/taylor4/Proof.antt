@@ -47,8 +47,8 @@ same-length c =
     let after3 = after4 .before .before .before .before .before .before .before in
     let after2 = after3 .before .before .before .before .before .before .before in
     let after1 = after2 .before .before .before .before .before .before .before in
-    after4 .taylor-term4 .ensures .length-out ∙ after3 .taylor-term3 .ensures .length-out ∙ after2 .taylor-term2 .ensures .length-out
-    ∙ after1 .taylor-term .ensures .length-out
+    after4 .taylor-term4 .ensures .length-out ∙ after3 .taylor-term3 .ensures .length-out
+    ∙ after2 .taylor-term2 .ensures .length-out ∙ after1 .taylor-term .ensures .length-out
 
 same-length-2 : tie.Need-same-length-2
 same-length-2 c =
@@ -56,8 +56,8 @@ same-length-2 c =
     let after3 = after4 .before .before .before .before .before .before .before in
     let after2 = after3 .before .before .before .before .before .before .before in
     let after1 = after2 .before .before .before .before .before .before .before in
-    after4 .taylor-term4 .ensures .length-kept ∙ after3 .taylor-term3 .ensures .length-kept ∙ after2 .taylor-term2 .ensures .length-kept
-    ∙ after1 .taylor-term .ensures .length-kept
+    after4 .taylor-term4 .ensures .length-kept ∙ after3 .taylor-term3 .ensures .length-kept
+    ∙ after2 .taylor-term2 .ensures .length-kept ∙ after1 .taylor-term .ensures .length-kept
 
 returns : tie.Need-returns
 returns c =
@@ -73,7 +73,8 @@ returns c =
     let L1 = rowProduct64 n (args .row-ptr1 .now) (args .col-idx1 .now) (args .vals1 .now) in
     let L2 = rowProduct64 n (args .row-ptr2 .now) (args .col-idx2 .now) (args .vals2 .now) in
     let Ω = omega4 A n minusHalf (args .s) (args .sign) (args .tau) L1 L2 in
-    let none = terms-none A n (3 * n) c Ω (args .out .now) (args .work .now) (start .pre .1 .1 .0 .0) (start .pre .1 .1 .1) in
+    let signal = start .pre .1 .1 in
+    let none = terms-none A n (3 * n) c Ω (args .out .now) (args .work .now) (signal .0 .0) (signal .1) in
     let next = terms-next A n (3 * n) c Ω (args .out .now) (args .work .now) in
     let one = next 0 _ _ _ _ _ none (coefficients .0) (after1 .taylor-term .ensures) in
     let two = next 1 _ _ _ _ _ one (coefficients .1) (after2 .taylor-term2 .ensures) in

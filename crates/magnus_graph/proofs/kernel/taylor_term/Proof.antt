@@ -1,6 +1,6 @@
--- `magnus_graph::kernel::taylor_term` meets its contract: the two walks write L1 v and L2 v beside v, then Ωv over v, and
--- add the coefficient times Ωv to out. The factors are those of the formula; the code's -0.5 is its minusHalf. Assumes
--- nothing.
+-- `magnus_graph::kernel::taylor_term` meets its contract: the two walks write L1 v and L2 v beside v, then Ωv over v,
+-- and add the coefficient times Ωv to out. The factors are those of the formula; the code's -0.5 is its minusHalf.
+-- Assumes nothing.
 use native.Mathlib.Omega.{arith}
 use lib.Ieee.{binary64, ofBits, neg}
 use Rattle.rounding.specs.StepLength.{minusHalf}
