@@ -8,11 +8,10 @@ use mathlib.Core.List.{List}
 use Prim.Native.Nat.{ℕ, _*_, _≤_, _<_}
 use native.Mathlib.Omega.{arith}
 use lib.ListN.{length, getD}
-use lib.Ieee.{Float, nan, lt, ofBits}
+use lib.Ieee.{Float, nan, ofBits}
 use lib.Ieee.Scale.{finite}
 use borrow.Author.Tests.{ltb-false, le-ltb, eqb-true, eqb-false, eq-eqb, ne-eqb, not-false}
 use Rattle.error.specs.Checks.{next}
-use Rattle.error.specs.Lengths.{lengthFault}
 use Rattle.error.specs.declared.Checked.{Checked}
 use Rattle.error.specs.declared.Checked.the-variants.{Accepted}
 use Rattle.error.proofs.Checks.{refuseIf-accepted, next-accepted, length-accepted}
@@ -23,7 +22,7 @@ use Rattle.magnus_graph_helpers.specs.StepChecks.{Sample, boundFault, no
 use Rattle.magnus_graph_helpers.specs.StepChecks.{weightsLengthFault, roomFault, sampleWeightsFault, sampleFault}
 use Rattle.magnus_graph_helpers.specs.StepChecks.{samplesFault, weightedBoundsFault, stepLengthFault, lengthsFault}
 use Rattle.magnus_graph_helpers.specs.StepChecks.{weightFault, stepFault, weightedStepFault}
-use Rattle.magnus_graph_helpers.specs.AcceptedStep.{Positive, NotNegative, WithinRadius, StepInputs, Weights}
+use Rattle.magnus_graph_helpers.specs.AcceptedStep.{Positive, NotNegative, WithinRadius, StepInputs}
 use Rattle.magnus_graph_helpers.specs.AcceptedStep.{AcceptedStep, AcceptedWeightedStep}
 use Rattle.magnus_graph_helpers.proofs.Positive.{positive-accepted}
 

@@ -43,7 +43,8 @@ halfPi = ofBits binary64 0x3FF9_21FB_5444_2D18
 unfoldable pub radiusFault : Bool → Float → Float → Checked
 radiusFault checked τ bound = refuseIf (checked && le halfPi (bound * τ)) (Radius τ bound)
 
--- the bound of a weighted step in row 8: (bound·root bound)·root bound, left to right. The root bound bounds the roots of the weights.
+-- the bound of a weighted step in row 8: (bound·root bound)·root bound, left to right. The root bound bounds the roots of the
+-- weights.
 unfoldable pub weightedBound : Float → Float → Float
 weightedBound bound rootBound = bound * rootBound * rootBound
 

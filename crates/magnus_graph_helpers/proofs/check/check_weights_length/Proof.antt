@@ -2,7 +2,7 @@
 -- refuses, names the larger length. Assumes nothing.
 use mathlib.Core.Path.{_≡_, sym, ap, _∙_}
 use mathlib.Core.Bool.{Bool, true, not}
-use Prim.Native.Nat.{ℕ, max, _≤_}
+use Prim.Native.Nat.{ℕ}
 use native.Mathlib.Nat.{max-eq-left, max-eq-right}
 use native.Mathlib.Omega.{arith}
 use Rattle.error.specs.Checks.{refuseIf}

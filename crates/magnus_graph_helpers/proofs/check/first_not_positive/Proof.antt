@@ -1,7 +1,6 @@
 -- `magnus_graph::check::first_not_positive` meets its contract. The loop keeps that every weight before place k is
 -- positive. Assumes nothing.
-use mathlib.Core.Path.{_≡_, sym, ap, _∙_}
-use mathlib.Core.Bool.{not}
+use mathlib.Core.Path.{sym, _∙_}
 use Prim.Native.Nat.{_-_, _<_}
 use native.Mathlib.Omega.{arith}
 use lib.ListN.{length}
