@@ -26,7 +26,7 @@ use Rattle.magnus_graph.specs.StepOutcome.{StepInput, stepAnswer, Steppe
 use Rattle.magnus_graph_helpers.proofs.StepSound.{step-accepted}
 
 -- a Laplacian on n nodes, for a kernel that counts the nodes by the signal's length
-valued : (n l : ℕ) {starts cols : List ℕ} {vals : List Float} → l ≡ n → Laplacian n starts cols vals → ValuedPattern l starts cols vals
+pub valued : (n l : ℕ) {starts cols : List ℕ} {vals : List Float} → l ≡ n → Laplacian n starts cols vals → ValuedPattern l starts cols vals
 valued n l {starts} {cols} {vals} p h =
     subst (λ (k : ℕ). ValuedPattern k starts cols vals) (sym p) record { pattern = h .pattern; count = h .count }
 

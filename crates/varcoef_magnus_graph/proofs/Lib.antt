@@ -1,0 +1,5 @@
+pub mod Vectors
+pub mod Walks
+pub mod Terms
+pub mod RootsAgree
+pub mod StepOutcome

@@ -1,0 +1,2 @@
+pub mod WeightedOmega4
+pub mod StepOutcome

@@ -1,0 +1,122 @@
+-- What a weighted step of order 4 answers and leaves (01, parts 7 and 8), and what demand 3 says of it. Assumes nothing.
+use mathlib.Core.Path.{_≡_}
+use mathlib.Core.Bool.{Bool}
+use mathlib.Core.List.{List, map}
+use Prim.Native.Nat.{ℕ, _*_}
+use lib.Dec.{T}
+use lib.ListN.{length}
+use lib.Ieee.{Float, binary64}
+use Rattle.rounding.specs.StepLength.{stepLength}
+use Rattle.arithmetic.specs.Arithmetic.{ieee}
+use Rattle.arithmetic.specs.SameList.{SameList}
+use Rattle.scratch.specs.Parts.{put, zeros}
+use Rattle.square_root.specs.SquareRoot.{squareRoot}
+use Rattle.error.specs.declared.Checked.{Checked}
+use Rattle.error.specs.declared.Checked.the-variants.{Accepted}
+use Rattle.error.specs.Checks.{ifAccepted}
+use Rattle.error.specs.Refusals.{Answers}
+use Rattle.graph.specs.RowProduct.{rowProduct64}
+use Rattle.magnus.specs.Operators.{weighted, plainSum}
+use Rattle.magnus.specs.Coefficients.{reciprocalFactorial}
+use Rattle.magnus.specs.Agree.{agree, SamplesAgree}
+use Rattle.magnus.specs.Formed.{FormedOperator, formedProduct, formedWeighted, formedStep4}
+use Rattle.magnus_graph.specs.Omega4.{expOmega4}
+use Rattle.magnus_graph_helpers.specs.StepChecks.{Sample, weightedStepFault}
+use Rattle.varcoef_magnus_graph.specs.WeightedOmega4.{sqrt3Over12}
+
+-- what a caller lends to a weighted step
+pub record StepInput : Type 0 where
+  pub first : Sample
+  pub second : Sample
+  pub tau : Float
+  -- the spectral bound, the root bound, and whether row 8 is checked
+  pub bound : Float
+  pub rootBound : Float
+  pub checked : Bool
+  pub weights1 : List Float
+  pub weights2 : List Float
+  pub signal : List Float
+  pub output : List Float
+  pub work : List Float
+
+abbrev pub stepInput : Sample
+    → Sample
+    → Float
+    → Float
+    → Float
+    → Bool
+    → List Float
+    → List Float
+    → List Float
+    → List Float
+    → List Float
+    → StepInput
+stepInput first second tau bound rootBound checked weights1 weights2 signal output work = record {
+  first = first;
+  second = second;
+  tau = tau;
+  bound = bound;
+  rootBound = rootBound;
+  checked = checked;
+  weights1 = weights1;
+  weights2 = weights2;
+  signal = signal;
+  output = output;
+  work = work;
+}
+
+module _ (sign : Float) (s : StepInput) where
+  abbrev nodes : ℕ
+  nodes = s .first .nodes
+
+  -- the roots of the weights
+  abbrev root1 : List Float
+  root1 = map (squareRoot binary64) (s .weights1)
+
+  abbrev root2 : List Float
+  root2 = map (squareRoot binary64) (s .weights2)
+
+  -- the weighted products with the two samples, with the numbers that they form
+  abbrev pub formed1 : FormedOperator
+  formed1 = formedWeighted binary64 nodes root1 (formedProduct binary64 nodes (s .first .starts) (s .first .cols) (s .first .vals))
+
+  abbrev pub formed2 : FormedOperator
+  formed2 = formedWeighted binary64 nodes root2 (formedProduct binary64 nodes (s .second .starts) (s .second .cols) (s .second .vals))
+
+  abbrev product1 : List Float → List Float
+  product1 = weighted (ieee binary64) nodes root1 (rowProduct64 nodes (s .first .starts) (s .first .cols) (s .first .vals))
+
+  abbrev product2 : List Float → List Float
+  product2 = weighted (ieee binary64) nodes root2 (rowProduct64 nodes (s .second .starts) (s .second .cols) (s .second .vals))
+
+  -- the answer: the first fault, in 01's order
+  abbrev pub stepAnswer : Checked
+  stepAnswer =
+      weightedStepFault (s .first) (s .second) (s .tau) (s .bound) (s .rootBound) (s .checked) (length (s .signal)) (length (s .output))
+      (s .weights1) (s .weights2) (length (s .work))
+
+  -- the output afterwards: the step's answer where all checks accept, else as it was
+  abbrev pub stepOutput : List Float
+  stepOutput = ifAccepted stepAnswer (expOmega4 binary64 nodes sqrt3Over12 sign (s .tau) product1 product2 (s .signal)) (s .output)
+
+  -- the work slice afterwards: its first 9n elements are +0 where all checks accept, else as it was
+  abbrev pub stepWork : List Float
+  stepWork = ifAccepted stepAnswer (put 0 (zeros (9 * nodes)) (s .work)) (s .work)
+
+  -- Demand 3: where the samples and the weights agree, every number formed is finite and τ is 0 or at least 2 ^ -1021, the output of an
+  -- accepted step is the plain sum of degree 4 with the weighted product, up to the sign of a zero.
+  abbrev pub PlainSum : List Float → Type 0
+  PlainSum output =
+      stepAnswer ≡ Accepted
+      → SamplesAgree (s .first .starts) (s .first .cols) (s .first .vals) (s .second .starts) (s .second .cols) (s .second .vals)
+      → T (agree (s .weights1) (s .weights2))
+      → T (formedStep4 binary64 nodes (reciprocalFactorial binary64) 4 sqrt3Over12 sign (s .tau) formed1 formed2 .formed (s .signal))
+      → T (stepLength binary64 (s .tau))
+      → SameList output (plainSum (ieee binary64) nodes (reciprocalFactorial binary64) 4 (s .tau) product1 (s .signal))
+
+  -- what a step promises: its answer has the number and values of the first fault, and each lent slice afterwards
+  pub record Stepped (answer : Checked) (output work : List Float) : Type 0 where
+    pub answers : Answers answer stepAnswer
+    pub output-is : output ≡ stepOutput
+    pub work-is : work ≡ stepWork
+    pub plain : PlainSum output
