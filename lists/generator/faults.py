@@ -2,13 +2,13 @@
 
 from collections import namedtuple
 
+from checks import LARGEST_N
 from ieee import ONE
 from list_format import APPLY_INTO_SLICE, FROM_CSR_PARTS, GERSHGORIN_BOUND_CSR
 from random_reals import INFINITIES, NANS, ordinary
-from reference import LARGEST_N
 
-# The row of the table, what is at fault, and the function that plants it.
-Fault = namedtuple("Fault", "row name plant")
+# The row of the table and the place of the check that it is to meet, and the function that plants it.
+Fault = namedtuple("Fault", "row place plant")
 
 TOP = 2**64 - 1
 TOP_COLUMN = 2**32 - 1
@@ -26,7 +26,7 @@ def count_of_starts(random, inputs):
         starts.append(starts[-1])
     elif how == 1:
         del starts[random.below(len(starts))]
-    elif how == 2:
+    elif how == 2 and len(starts) > 1:
         del starts[random.between(1, len(starts) - 1) :]
     elif inputs["n"] <= LARGEST_N:
         inputs["n"] += random.between(1, 3)
@@ -55,7 +55,7 @@ def change_length(random, values, another):
 
 def count_of_columns(random, inputs):
     change_length(random, inputs["columns"], 0)
-    if random.chance(15):
+    if random.chance(15) and inputs["row starts"]:
         inputs["row starts"][-1] = random.choice((TOP, 2**63, 2**53 + 1, 2**32, 2**16))
 
 
@@ -81,13 +81,13 @@ def length_of(name):
 
 
 FAULTS_OF_NETWORKS = (
-    Fault(6, "n", n_too_large),
-    Fault(1, "row starts", count_of_starts),
-    Fault(2, "row starts", falling_start),
-    Fault(3, "columns", count_of_columns),
-    Fault(3, "values", count_of_values),
-    Fault(4, "columns", column_outside),
-    Fault(5, "values", value_not_finite),
+    Fault(6, "network", n_too_large),
+    Fault(1, "network", count_of_starts),
+    Fault(2, "network", falling_start),
+    Fault(3, "network", count_of_columns),
+    Fault(3, "network", count_of_values),
+    Fault(4, "network", column_outside),
+    Fault(5, "network", value_not_finite),
 )
 
 FAULTS_OF_CALLS = {

@@ -9,6 +9,7 @@ from collections import namedtuple
 LARGEST_CASE = 65536
 
 ROOT, FROM_CSR_PARTS, GERSHGORIN_BOUND_CSR, APPLY_INTO_SLICE, COPY_FROM, AXPY_INTO_SLICE = range(1, 7)
+OMEGA4, OMEGA4_ADJOINT, WEIGHTED_OMEGA4, WEIGHTED_OMEGA4_ADJOINT = range(7, 11)
 
 # What an answer says: its number in document 01's table (0: accepted) and its values.
 Answer = namedtuple("Answer", "number values")
@@ -18,6 +19,13 @@ Case = namedtuple("Case", "kind inputs result")
 Kind = namedtuple("Kind", "name inputs result")
 
 NETWORK = (("n", "count"), ("row starts", "counts"), ("columns", "columns"), ("values", "reals"))
+
+# Of a step: what it works with, the weights of a weighted one, and what is lent to it. The work slice is given by its length and
+# the one bit pattern of all its elements.
+STEP = (("sample 1", "network"), ("sample 2", "network"), ("tau", "real"), ("spectral bound", "real"), ("check", "flag"))
+WEIGHTS = (("root bound", "real"), ("weights 1", "reals"), ("weights 2", "reals"))
+LENT = (("signal", "reals"), ("output", "reals"), ("work length", "count"), ("work", "real"))
+STEP_RESULT = (("answer", "answer"), ("output", "reals"))
 
 KINDS = {
     ROOT: Kind("sqrt", (("x", "real"),), (("root", "real"),)),
@@ -34,10 +42,14 @@ KINDS = {
         (("target", "reals"), ("alpha", "real"), ("source", "reals")),
         (("answer", "answer"), ("target", "reals")),
     ),
+    OMEGA4: Kind("apply_exp_omega4_kernel", STEP + LENT, STEP_RESULT),
+    OMEGA4_ADJOINT: Kind("apply_exp_omega4_adj_kernel", STEP + LENT, STEP_RESULT),
+    WEIGHTED_OMEGA4: Kind("apply_exp_omega4_la_kernel", STEP + WEIGHTS + LENT, STEP_RESULT),
+    WEIGHTED_OMEGA4_ADJOINT: Kind("apply_exp_omega4_la_adj_kernel", STEP + WEIGHTS + LENT, STEP_RESULT),
 }
 
 # struct's letter for a number of each type, and for the elements of a slice of each type.
-NUMBERS = {"count": "Q", "real": "Q"}
+NUMBERS = {"count": "Q", "real": "Q", "flag": "B"}
 ELEMENTS = {"counts": "Q", "columns": "I", "reals": "Q"}
 
 
@@ -46,6 +58,8 @@ def encode_field(type_, value):
         return struct.pack("<" + NUMBERS[type_], value)
     if type_ == "answer":
         return struct.pack(f"<HH{len(value.values)}Q", value.number, len(value.values), *value.values)
+    if type_ == "network":
+        return encode_fields(NETWORK, value)
     return struct.pack(f"<I{len(value)}{ELEMENTS[type_]}", len(value), *value)
 
 
@@ -87,6 +101,8 @@ class Reader:
         if type_ == "answer":
             number, length = self.numbers("HH")
             return Answer(number, self.numbers(f"{length}Q"))
+        if type_ == "network":
+            return self.fields(NETWORK)
         return self.numbers(f"{self.numbers('I')[0]}{ELEMENTS[type_]}")
 
     def fields(self, fields):

@@ -4,6 +4,7 @@ import sys
 
 import networks
 import roots
+import steps
 from count import describe
 from list_format import ROOT, encode_case
 from oracle import settle
@@ -12,6 +13,7 @@ from random_reals import Random
 LISTS = {
     "crates/replay_roots/stdin": lambda random: [(ROOT, fields) for fields in roots.inputs(random)],
     "crates/replay_networks/stdin": networks.inputs,
+    "crates/replay_steps/stdin": steps.inputs,
 }
 
 

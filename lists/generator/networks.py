@@ -2,11 +2,12 @@
 
 from itertools import combinations, product
 
-from faults import FAULTS_OF_CALLS, FAULTS_OF_NETWORKS
+import checks
+from checks import LARGEST_N
+from faults import FAULTS_OF_CALLS, FAULTS_OF_NETWORKS, count_of_values
 from ieee import ONE, SIGN, to_bits
 from list_format import APPLY_INTO_SLICE, AXPY_INTO_SLICE, COPY_FROM, FROM_CSR_PARTS, GERSHGORIN_BOUND_CSR
 from random_reals import FINITE_SORTS, INFINITIES, NANS, ZEROS, finite_list, ordinary, signal_list, special
-from reference import LARGEST_N, refusals
 
 NETWORK_CALLS = (FROM_CSR_PARTS, GERSHGORIN_BOUND_CSR, APPLY_INTO_SLICE)
 SMALL = 8
@@ -103,7 +104,7 @@ def at_the_limit(random, kind):
         yield inputs(LARGEST_N)
     yield inputs(LARGEST_N + 1)
     for fault in FAULTS_OF_NETWORKS:
-        if fault.row not in (6, 1) and (fault.row, fault.name) != (3, "values"):
+        if fault.row not in (6, 1) and fault.plant is not count_of_values:
             planted = inputs(LARGEST_N + 1)
             fault.plant(random, planted)
             yield planted
@@ -111,7 +112,7 @@ def at_the_limit(random, kind):
 
 def present(kind, inputs, faults):
     """Is the row of each fault met? Row 10 is met once for each slice of a wrong length."""
-    rows = [answer.number for answer in refusals(kind, inputs)]
+    rows = [check.row for check in checks.faults(kind, inputs)]
     lengths = [fault for fault in faults if fault.row == 10]
     return all(fault.row in rows for fault in faults) and rows.count(10) >= len(lengths)
 

@@ -1,13 +1,13 @@
 // The cases at the limits of row 6, whose networks are too large for a list.
-use crate::answer::Answer;
-use crate::answer::acceptance;
-use crate::answer::is_bounded;
-use crate::answer::is_checked;
-use crate::answer::size_refusal;
-use crate::fields::are_reals;
+use crate::networks::is_bounded;
 use graph::apply_into_slice;
 use graph::from_csr_parts;
 use graph::gershgorin_bound_csr;
+use replay::answer::Answer;
+use replay::answer::acceptance;
+use replay::answer::is_checked;
+use replay::answer::size_refusal;
+use replay::fields::are_reals;
 
 // Whether the three calls on a network answer what is expected, the bound with the bits where that is the acceptance.
 // The product goes to dst.

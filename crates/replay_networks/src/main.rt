@@ -10,8 +10,6 @@ use replay::Case;
 use replay::Tally;
 use replay::next_case;
 
-mod answer;
-mod fields;
 mod limits;
 mod networks;
 mod signals;

@@ -1,19 +1,21 @@
 // The calls on networks: kinds 2 to 4. The arrays have room for the longest slices of the list.
-use crate::answer::after_answer;
-use crate::answer::answer_at;
-use crate::answer::is_acceptance;
-use crate::answer::is_bounded;
-use crate::answer::is_checked;
-use crate::answer::written_right;
-use crate::fields::ends;
-use crate::fields::further;
-use crate::fields::number64;
-use crate::fields::read_columns;
-use crate::fields::read_counts;
-use crate::fields::read_reals;
+use float::bits::has_bits;
+use graph::Bounded;
 use graph::apply_into_slice;
 use graph::from_csr_parts;
 use graph::gershgorin_bound_csr;
+use replay::answer::Answer;
+use replay::answer::after_answer;
+use replay::answer::answer_at;
+use replay::answer::is_acceptance;
+use replay::answer::is_checked;
+use replay::answer::is_refusal;
+use replay::answer::written_right;
+use replay::fields::ends;
+use replay::fields::further;
+use replay::fields::number64;
+use replay::fields::read_parts;
+use replay::fields::read_reals;
 
 // Whether `from_csr_parts` answers what stands at a position.
 fn parts_right(
@@ -26,6 +28,14 @@ fn parts_right(
 ) -> bool {
     let checked = from_csr_parts(n, row_ptr, col_idx, vals);
     is_checked(answer_at(fields, at), checked) && ends(fields, after_answer(fields, at))
+}
+
+// Whether what `gershgorin_bound_csr` answered is expected: the bound of those bits, where the acceptance is.
+pub fn is_bounded(expected: Answer, bits: u64, bounded: Bounded) -> bool {
+    match bounded {
+        Bounded::Bound(bound) => is_acceptance(expected) && has_bits(bound, bits),
+        Bounded::Refused(refusal) => is_refusal(expected, refusal),
+    }
 }
 
 // Whether `gershgorin_bound_csr` answers what stands at a position. After an acceptance stands the bound.
@@ -110,20 +120,17 @@ pub fn network_right(kind: u64, fields: &[u8]) -> bool {
     let mut starts = [0usize; 4098];
     let mut columns = [0u32; 128];
     let mut values = [0.0; 128];
-    let n = number64(fields, 0) as usize;
-    let row_ptr = read_counts(fields, 8, &mut starts);
-    let col_idx = read_columns(fields, row_ptr.next, &mut columns);
-    let vals = read_reals(fields, col_idx.next, &mut values);
-    let r = row_ptr.count;
-    let c = col_idx.count;
-    let v = vals.count;
+    let network = read_parts(fields, 0, &mut starts, &mut columns, &mut values);
+    let r = network.starts;
+    let c = network.columns;
+    let v = network.values;
     call_right(
         kind,
-        n,
+        network.n,
         &starts[..r],
         &columns[..c],
         &values[..v],
         fields,
-        vals.next,
+        network.next,
     )
 }

@@ -1,11 +1,11 @@
 // The calls on signals: kinds 5 and 6. The arrays have room for the longest slices of the list.
-use crate::answer::written_right;
-use crate::fields::further;
-use crate::fields::number64;
-use crate::fields::read_reals;
 use float::bits::from_bits;
 use graph_signal::axpy_into_slice;
 use graph_signal::copy_from;
+use replay::answer::written_right;
+use replay::fields::further;
+use replay::fields::number64;
+use replay::fields::read_reals;
 
 // Whether `copy_from`, at kind 5, or else `axpy_into_slice` answers and writes what stands at a position.
 fn call_right(

@@ -9,7 +9,10 @@ use semiflow::{
     SemiflowError,
 };
 
-use crate::fields::{answer, push_slice, Fields, Reply};
+use crate::{
+    fields::{answer, push_slice, Fields, Reply},
+    steps,
+};
 
 type Call = fn(&mut Fields) -> Reply;
 
@@ -21,12 +24,16 @@ pub fn of_kind(kind: u16) -> Option<Call> {
         4 => Some(apply_into_slice),
         5 => Some(copy_from),
         6 => Some(axpy_into_slice),
+        7 => Some(steps::omega4),
+        8 => Some(steps::omega4_adjoint),
+        9 => Some(steps::weighted_omega4),
+        10 => Some(steps::weighted_omega4_adjoint),
         _ => None,
     }
 }
 
 /// The texts of the Rust's refusals and their numbers in document 01's table.
-const NUMBERS: [(&str, u16); 5] = [
+const NUMBERS: [(&str, u16); 14] = [
     ("from_csr_parts: row_ptr.len() must equal n_nodes+1", 1),
     ("from_csr_parts: row_ptr not monotone non-decreasing", 2),
     (
@@ -35,9 +42,24 @@ const NUMBERS: [(&str, u16); 5] = [
     ),
     ("from_csr_parts: col_idx entry >= n_nodes", 4),
     ("from_csr_parts: non-finite matrix entry", 5),
+    ("MagnusGraphHeatChernoff: tau must be finite and >= 0", 7),
+    ("VarCoefMagnusGraphHeatChernoff: tau must be finite and >= 0", 7),
+    ("MagnusGraphHeatChernoff: rho_bar_max must be finite and > 0", 9),
+    ("rho_bar_max", 9),
+    ("a_sup_max", 9),
+    ("VarCoefMagnusGraphHeatChernoff: a_at_t(t).len() != n_nodes", 10),
+    (
+        "VarCoefMagnusGraphHeatChernoff: a_at_t(t) must be strictly positive and finite",
+        11,
+    ),
+    ("VarCoef adjoint: a(t) not positive/finite", 11),
+    ("VarCoefMagnusGraphHeatChernoff: n_nodes must be >= 1", 12),
 ];
 
 fn refused(error: &SemiflowError) -> Reply {
+    if let SemiflowError::OutOfMagnusRadius { tau, rho_estimate } = error {
+        return Reply::Answer(answer(8, &[*tau, *rho_estimate]));
+    }
     if let SemiflowError::DomainViolation { what, value } = error {
         if let Some((_, number)) = NUMBERS.iter().find(|(text, _)| text == what) {
             return Reply::Answer(answer(*number, &[*value]));
@@ -63,7 +85,7 @@ fn num_traits_sqrt<F: semiflow::SemiflowFloat>(x: F) -> F {
 }
 
 /// n, row starts, columns, values.
-fn laplacian(inputs: &mut Fields) -> Result<Laplacian<f64>, SemiflowError> {
+pub fn laplacian(inputs: &mut Fields) -> Result<Laplacian<f64>, SemiflowError> {
     let n = inputs.count();
     let (row_ptr, col_idx, vals) = (inputs.counts(), inputs.columns(), inputs.reals());
     Laplacian::from_csr_parts(n, row_ptr, col_idx, vals, LaplacianKind::GeneralSymmetric)
@@ -88,14 +110,14 @@ fn gershgorin_bound_csr(inputs: &mut Fields) -> Reply {
 }
 
 /// Accepted, with one slice afterwards.
-fn accepted(slice: &[f64]) -> Reply {
+pub fn accepted(slice: &[f64]) -> Reply {
     let mut bytes = answer(0, &[]);
     push_slice(&mut bytes, slice);
     Reply::Answer(bytes)
 }
 
 /// A refusal, with the slice as it was.
-fn refused_unchanged(error: &SemiflowError, slice: &[f64]) -> Reply {
+pub fn refused_unchanged(error: &SemiflowError, slice: &[f64]) -> Reply {
     match refused(error) {
         Reply::Answer(mut bytes) => {
             push_slice(&mut bytes, slice);

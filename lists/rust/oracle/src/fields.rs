@@ -46,6 +46,11 @@ impl<'a> Fields<'a> {
         f64::from_le_bytes(self.array())
     }
 
+    /// One byte, 0 or 1.
+    pub fn flag(&mut self) -> bool {
+        self.array::<1>() != [0]
+    }
+
     fn slice<T>(&mut self, element: impl Fn(&mut Self) -> T) -> Vec<T> {
         (0..self.u32()).map(|_| element(self)).collect()
     }

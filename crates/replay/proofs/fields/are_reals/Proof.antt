@@ -3,8 +3,8 @@ use mathlib.Core.Path.{_≡_}
 use Prim.Native.Nat.{_-_}
 use lib.ListN.{length}
 use borrow.Author.Needs.{needs}
-use Rattle.replay_networks.proofs.fields.are_reals.Statement.{statement}
-use Rattle.replay_networks.proofs.fields.are_reals.Tie as tie
+use Rattle.replay.proofs.fields.are_reals.Statement.{statement}
+use Rattle.replay.proofs.fields.are_reals.Tie as tie
 
 abbrev Inv-loop : tie.InvT-loop
 Inv-loop values fields at next₀ i₀ i-end next i = i-end ≡ length values

@@ -4,8 +4,8 @@ use Prim.Native.Nat.{_-_}
 use lib.ListN.{length}
 use lib.Seq.{length-take-le}
 use borrow.Author.Needs.{needs}
-use Rattle.replay_networks.proofs.fields.read_counts.Statement.{statement}
-use Rattle.replay_networks.proofs.fields.read_counts.Tie as tie
+use Rattle.replay.proofs.fields.read_counts.Statement.{statement}
+use Rattle.replay.proofs.fields.read_counts.Tie as tie
 
 abbrev Inv-loop : tie.InvT-loop
 Inv-loop fields at target₀ count next₀ i₀ target next i = length target ≡ length target₀

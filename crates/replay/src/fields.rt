@@ -1,12 +1,12 @@
 // The fields of a case (lists/README.md has the format). A field stands at a position, and every read is defined: past
 // the end of the case a number is 0, and a slice that is longer than its array leads to a position where no case ends.
 ghost use Prim.Native.Nat.{_≤_, _<_};
-ghost use Rattle.replay_networks.specs.Counts.{Counts};
+ghost use Rattle.replay.specs.Counts.{Counts};
+use crate::kernel::word16;
+use crate::kernel::word32;
+use crate::kernel::word64;
 use float::bits::from_bits;
 use float::bits::has_bits;
-use replay::kernel::word16;
-use replay::kernel::word32;
-use replay::kernel::word64;
 
 // A position beyond every case: with its head of 6 bytes a case has at most 65,536.
 const BEYOND: usize = 65536;
@@ -111,6 +111,40 @@ pub fn read_reals(fields: &[u8], at: usize, target: &mut [f64]) -> Slice
         next = further(next, 8);
     }
     Slice { count, next }
+}
+
+// The parts of a Laplacian: n, how many row starts, columns and values it has, and the position of the field after them.
+pub struct Parts {
+    pub n: usize,
+    pub starts: usize,
+    pub columns: usize,
+    pub values: usize,
+    pub next: usize,
+}
+
+// Reads the parts of a Laplacian, each slice to the start of its target.
+pub fn read_parts(
+    fields: &[u8],
+    at: usize,
+    row_ptr: &mut [usize],
+    col_idx: &mut [u32],
+    vals: &mut [f64],
+) -> Parts
+    ensures { λ r. ⌜ Counts (r .starts) (now («row_ptr» .exit)) ⌝ }
+    ensures { λ r. ⌜ Counts (r .columns) (now («col_idx» .exit)) ⌝ }
+    ensures { λ r. ⌜ Counts (r .values) (now (vals .exit)) ⌝ }
+{
+    let n = number64(fields, at) as usize;
+    let starts = read_counts(fields, further(at, 8), row_ptr);
+    let columns = read_columns(fields, starts.next, col_idx);
+    let values = read_reals(fields, columns.next, vals);
+    Parts {
+        n,
+        starts: starts.count,
+        columns: columns.count,
+        values: values.count,
+        next: values.next,
+    }
 }
 
 // Whether the values are the reals from a position on, in every bit. Any NaN matches any NaN.

@@ -6,7 +6,6 @@ use crate::fields::number64;
 use error::Checked;
 use error::Refusal;
 use float::bits::has_bits;
-use graph::Bounded;
 
 // An answer that is expected: its number, which is 0 for an acceptance and else the row of document 01's table; how many
 // values it has; and the first two of them, a count as a number and a real as its bits.
@@ -80,7 +79,7 @@ fn is_two_reals(expected: Answer, number: u64, x: f64, y: f64) -> bool {
 }
 
 // Whether a refusal is expected: its row of the table, with its values.
-fn is_refusal(expected: Answer, refusal: Refusal) -> bool {
+pub fn is_refusal(expected: Answer, refusal: Refusal) -> bool {
     match refusal {
         Refusal::RowStartCount(count) => is_count(expected, 1, count),
         Refusal::RowStartFalls(row) => is_count(expected, 2, row),
@@ -111,14 +110,6 @@ pub fn is_checked(expected: Answer, checked: Checked) -> bool {
     match checked {
         Checked::Accepted => is_acceptance(expected),
         Checked::Refused(refusal) => is_refusal(expected, refusal),
-    }
-}
-
-// Whether what `gershgorin_bound_csr` answered is expected: the bound of those bits, where the acceptance is.
-pub fn is_bounded(expected: Answer, bits: u64, bounded: Bounded) -> bool {
-    match bounded {
-        Bounded::Bound(bound) => is_acceptance(expected) && has_bits(bound, bits),
-        Bounded::Refused(refusal) => is_refusal(expected, refusal),
     }
 }
 

@@ -1,0 +1,49 @@
+// Replays a stored list of steps of order 4: each call is made again, and its answer and the slices that it writes are
+// compared in every bit. Any NaN matches any NaN.
+use crate::steps::step_right;
+use replay::Case;
+use replay::Tally;
+use replay::next_case;
+
+mod steps;
+
+// A case of a kind, counted as right or wrong: whether its call does what the case says. Kinds 9 and 10, weighted steps,
+// are passed over.
+fn counted(kind: u64, fields: &[u8], tally: Tally) -> Tally {
+    match kind {
+        7..=8 => tally.counted(step_right(kind, fields)),
+        9..=10 => tally,
+        _ => tally.counted(false),
+    }
+}
+
+// The same of the case whose fields stand at the start of the buffer.
+fn case_counted(kind: u64, len: usize, buffer: &[u8], tally: Tally) -> Tally {
+    if buffer.len() < len {
+        return tally.counted(false);
+    }
+    counted(kind, &buffer[..len], tally)
+}
+
+// One case more.
+fn step(buffer: &mut [u8], tally: Tally) -> Tally {
+    let case = next_case(buffer);
+    match case {
+        Case::Fields(kind, len) => case_counted(kind, len, buffer, tally),
+        Case::End => tally.stopped(true),
+        Case::Broken => tally.stopped(false),
+    }
+}
+
+fn main() {
+    let mut space = io::large_buffer();
+    let buffer: &mut [u8] = &mut space;
+    let mut tally = Tally::new();
+    for _ in 0..1_000_001usize {
+        if tally.ended {
+            break;
+        }
+        tally = step(buffer, tally);
+    }
+    tally.summary();
+}

@@ -1,0 +1,253 @@
+// The steps of order 4: kinds 7 (forward) and 8 (adjoint). The arrays have room for every slice that a case of 65,536
+// bytes can have, and for the work slices of the list.
+use error::Checked;
+use float::bits::from_bits;
+use float::bits::has_bits;
+use magnus_graph::apply_exp_omega4_adj_kernel;
+use magnus_graph::apply_exp_omega4_kernel;
+use replay::answer::answer_at;
+use replay::answer::is_acceptance;
+use replay::answer::written_right;
+use replay::fields::further;
+use replay::fields::number64;
+use replay::fields::read_parts;
+use replay::fields::read_reals;
+use replay::kernel::byte;
+
+// The most elements that a work slice of the list has.
+const MOST_WORK: usize = 8192;
+
+// The numbers of a step: its length, the spectral bound, and whether row 8 is checked.
+struct Numbers {
+    tau: f64,
+    rho_bar_max: f64,
+    convergence_radius_check: bool,
+}
+
+// The numbers at a position. They take 17 bytes.
+fn numbers_at(fields: &[u8], at: usize) -> Numbers {
+    let tau = from_bits(number64(fields, at));
+    let rho_bar_max = from_bits(number64(fields, further(at, 8)));
+    let convergence_radius_check = byte(fields, further(at, 16)) == 1;
+    Numbers {
+        tau,
+        rho_bar_max,
+        convergence_radius_check,
+    }
+}
+
+// Whether so many elements at the start of the work slice are +0, and each other one has the bits from before the call.
+fn work_right(work: &[f64], cleared: usize, before: u64) -> bool {
+    for i in 0..work.len() {
+        let bits = if i < cleared { 0 } else { before };
+        if !has_bits(work[i], bits) {
+            return false;
+        }
+    }
+    true
+}
+
+// Whether a step answered and wrote what stands at a position, and left the work slice as it must. An accepted step has
+// an output of n elements and clears 5n elements of the work slice; a refused one clears none.
+fn outcome_right(
+    checked: Checked,
+    dst: &[f64],
+    work: &[f64],
+    before: u64,
+    fields: &[u8],
+    at: usize,
+) -> bool {
+    let accepted = is_acceptance(answer_at(fields, at));
+    let cleared = if accepted { 5 * dst.len() } else { 0 };
+    written_right(checked, dst, fields, at) && work_right(work, cleared, before)
+}
+
+// The step of a kind: forward at kind 7, or else adjoint.
+fn stepped(
+    kind: u64,
+    n1: usize,
+    row_ptr1: &[usize],
+    col_idx1: &[u32],
+    vals1: &[f64],
+    n2: usize,
+    row_ptr2: &[usize],
+    col_idx2: &[u32],
+    vals2: &[f64],
+    numbers: Numbers,
+    src: &[f64],
+    dst: &mut [f64],
+    work: &mut [f64],
+) -> Checked {
+    let tau = numbers.tau;
+    let rho_bar_max = numbers.rho_bar_max;
+    let convergence_radius_check = numbers.convergence_radius_check;
+    if kind == 7 {
+        return apply_exp_omega4_kernel(
+            n1,
+            row_ptr1,
+            col_idx1,
+            vals1,
+            n2,
+            row_ptr2,
+            col_idx2,
+            vals2,
+            tau,
+            rho_bar_max,
+            convergence_radius_check,
+            src,
+            dst,
+            work,
+        );
+    }
+    apply_exp_omega4_adj_kernel(
+        n1,
+        row_ptr1,
+        col_idx1,
+        vals1,
+        n2,
+        row_ptr2,
+        col_idx2,
+        vals2,
+        tau,
+        rho_bar_max,
+        convergence_radius_check,
+        src,
+        dst,
+        work,
+    )
+}
+
+// Whether the step of a kind does what the case says from a position on. First stand the length of the work slice and
+// the bits that each of its elements has before.
+fn call_right(
+    kind: u64,
+    n1: usize,
+    row_ptr1: &[usize],
+    col_idx1: &[u32],
+    vals1: &[f64],
+    n2: usize,
+    row_ptr2: &[usize],
+    col_idx2: &[u32],
+    vals2: &[f64],
+    numbers: Numbers,
+    src: &[f64],
+    dst: &mut [f64],
+    fields: &[u8],
+    at: usize,
+) -> bool {
+    let length = number64(fields, at) as usize;
+    let before = number64(fields, further(at, 8));
+    if MOST_WORK < length {
+        return false;
+    }
+    let element = from_bits(before);
+    let mut space = [element; MOST_WORK];
+    let work = &mut space[..length];
+    let checked = stepped(
+        kind,
+        n1,
+        row_ptr1,
+        col_idx1,
+        vals1,
+        n2,
+        row_ptr2,
+        col_idx2,
+        vals2,
+        numbers,
+        src,
+        dst,
+        work,
+    );
+    outcome_right(checked, dst, work, before, fields, further(at, 16))
+}
+
+// The same for the numbers, the signal and the output before, which stand first at the position.
+fn vectors_right(
+    kind: u64,
+    n1: usize,
+    row_ptr1: &[usize],
+    col_idx1: &[u32],
+    vals1: &[f64],
+    n2: usize,
+    row_ptr2: &[usize],
+    col_idx2: &[u32],
+    vals2: &[f64],
+    fields: &[u8],
+    at: usize,
+) -> bool {
+    let mut signals = [0.0; 8192];
+    let mut outputs = [0.0; 8192];
+    let numbers = numbers_at(fields, at);
+    let src = read_reals(fields, further(at, 17), &mut signals);
+    let dst = read_reals(fields, src.next, &mut outputs);
+    let s = src.count;
+    let d = dst.count;
+    call_right(
+        kind,
+        n1,
+        row_ptr1,
+        col_idx1,
+        vals1,
+        n2,
+        row_ptr2,
+        col_idx2,
+        vals2,
+        numbers,
+        &signals[..s],
+        &mut outputs[..d],
+        fields,
+        dst.next,
+    )
+}
+
+// The same for the second sample, which stands first at the position.
+fn second_sample_right(
+    kind: u64,
+    n1: usize,
+    row_ptr1: &[usize],
+    col_idx1: &[u32],
+    vals1: &[f64],
+    fields: &[u8],
+    at: usize,
+) -> bool {
+    let mut starts = [0usize; 8192];
+    let mut columns = [0u32; 16384];
+    let mut values = [0.0; 8192];
+    let sample = read_parts(fields, at, &mut starts, &mut columns, &mut values);
+    let r = sample.starts;
+    let c = sample.columns;
+    let v = sample.values;
+    vectors_right(
+        kind,
+        n1,
+        row_ptr1,
+        col_idx1,
+        vals1,
+        sample.n,
+        &starts[..r],
+        &columns[..c],
+        &values[..v],
+        fields,
+        sample.next,
+    )
+}
+
+// The same for the first sample, with which the case starts.
+pub fn step_right(kind: u64, fields: &[u8]) -> bool {
+    let mut starts = [0usize; 8192];
+    let mut columns = [0u32; 16384];
+    let mut values = [0.0; 8192];
+    let sample = read_parts(fields, 0, &mut starts, &mut columns, &mut values);
+    let r = sample.starts;
+    let c = sample.columns;
+    let v = sample.values;
+    second_sample_right(
+        kind,
+        sample.n,
+        &starts[..r],
+        &columns[..c],
+        &values[..v],
+        fields,
+        sample.next,
+    )
+}

@@ -1,0 +1,178 @@
+"""Refused inputs of steps: faults, one for each way in which a row of document 01's table can be met, planted alone and together."""
+
+from itertools import combinations
+
+import checks
+from checks import outside_radius, work_need
+from faults import FAULTS_OF_NETWORKS, TOP, Fault, change_length, length_of
+from ieee import ONE, SIGN
+from list_format import OMEGA4, OMEGA4_ADJOINT, WEIGHTED_OMEGA4, WEIGHTED_OMEGA4_ADJOINT
+from networks import network
+from random_reals import INFINITIES, NANS, ZEROS, huge, ordinary, signal_list, tiny
+from step_samples import moderate, moderate_tau, step_inputs, two_patterns
+
+ROWS_OF_PATTERNS = range(1, 7)
+NOT_POSITIVE = (*NANS, *2 * INFINITIES, *2 * ZEROS, ONE | SIGN, SIGN | 1, 0xFFEFFFFFFFFFFFFF)
+TAUS_OUTSIDE = (*NANS, *4 * INFINITIES, ONE | SIGN, SIGN | 1, 0xFFEFFFFFFFFFFFFF)
+
+
+def of_sample(sample):
+    """The faults of a network, planted in one of the samples."""
+    return tuple(
+        Fault(row, sample, lambda random, inputs, plant=plant: plant(random, inputs[sample]))
+        for row, _, plant in FAULTS_OF_NETWORKS
+    )
+
+
+def not_positive(name):
+    def plant(random, inputs):
+        inputs[name] = random.choice(NOT_POSITIVE)
+
+    return plant
+
+
+def tau_outside(random, inputs):
+    inputs["tau"] = random.choice(TAUS_OUTSIDE)
+
+
+def beyond_the_radius(random, inputs):
+    """The check turned on and, where that is not enough, a large τ or a large bound."""
+    inputs["check"] = 1
+    if outside_radius(inputs) is None:
+        name = random.choice(("tau", "spectral bound", "root bound" if "root bound" in inputs else "tau"))
+        inputs[name] = random.choice((ordinary, huge))(random) & ~SIGN
+
+
+def another_n(random, inputs):
+    """A node more in the second sample, without entries, or a node less where the last has none."""
+    second = inputs["sample 2"]
+    starts = second["row starts"]
+    if random.chance(50) and len(starts) > 1 and starts[-1] == starts[-2]:
+        second["n"] -= 1
+        del starts[-1]
+    elif second["n"] < TOP:
+        second["n"] += 1
+        starts.extend(starts[-1:])
+
+
+def no_nodes(random, inputs):
+    """The inputs are drawn without nodes; nothing is left to plant."""
+
+
+def short_work(kind):
+    """A work slice shorter than the need, and no longer than a program can well lend, whatever n is."""
+    def plant(random, inputs):
+        need = min(work_need(kind, inputs), 100)
+        inputs["work length"] = random.choice((max(need - 1, 0), need // 2, need * 4 // 5, need * 8 // 9, 0))
+
+    return plant
+
+
+def weight_at_fault(name):
+    def plant(random, inputs):
+        if not inputs[name]:
+            inputs[name].append(ONE)
+        for _ in range(random.between(1, 2)):
+            bad = tiny(random) | SIGN if random.chance(15) else random.choice(NOT_POSITIVE)
+            inputs[name][random.below(len(inputs[name]))] = bad
+
+    return plant
+
+
+def count_of_weights(name):
+    return lambda random, inputs: change_length(random, inputs[name], ONE)
+
+
+SAMPLES = of_sample("sample 1") + of_sample("sample 2")
+
+
+def faults_of_step(kind):
+    return SAMPLES + (
+        Fault(9, "spectral bound", not_positive("spectral bound")),
+        Fault(7, "tau", tau_outside),
+        Fault(8, "tau", beyond_the_radius),
+        Fault(10, "sample 2", another_n),
+        Fault(10, "signal", length_of("signal")),
+        Fault(10, "output", length_of("output")),
+        Fault(10, "work", short_work(kind)),
+    )
+
+
+def faults_of_weighted_step(kind):
+    return SAMPLES + (
+        Fault(9, "spectral bound", not_positive("spectral bound")),
+        Fault(9, "root bound", not_positive("root bound")),
+        Fault(12, "sample 1", no_nodes),
+        Fault(7, "tau", tau_outside),
+        Fault(8, "tau", beyond_the_radius),
+        Fault(10, "sample 2", another_n),
+        Fault(10, "signal", length_of("signal")),
+        Fault(10, "output", length_of("output")),
+        Fault(10, "weights", count_of_weights("weights 1")),
+        Fault(10, "weights", count_of_weights("weights 2")),
+        Fault(10, "work", short_work(kind)),
+        Fault(11, "weights 1", weight_at_fault("weights 1")),
+        Fault(11, "weights 2", weight_at_fault("weights 2")),
+    )
+
+
+# In the order of each call's checks.
+FAULTS_OF_STEPS = {
+    OMEGA4: faults_of_step(OMEGA4),
+    OMEGA4_ADJOINT: faults_of_step(OMEGA4_ADJOINT),
+    WEIGHTED_OMEGA4: faults_of_weighted_step(WEIGHTED_OMEGA4),
+    WEIGHTED_OMEGA4_ADJOINT: faults_of_weighted_step(WEIGHTED_OMEGA4_ADJOINT),
+}
+
+# Without nodes: n is not above 4,096, row starts do not fall, every column is refused before a value, and no work is needed.
+NOT_WITHOUT_NODES = {(6, "sample 1"), (2, "sample 1"), (5, "sample 1"), (10, "work")}
+
+
+def can_stand_together(faults):
+    planted = {(fault.row, fault.place) for fault in faults}
+    return (12, "sample 1") not in planted or not planted & NOT_WITHOUT_NODES
+
+
+def shown(kind, inputs, faults):
+    """Is each of the faults present, and the first of them the first that the call meets?"""
+    met = [(check.row, check.place) for check in checks.faults(kind, inputs)]
+    planted = [(fault.row, fault.place) for fault in faults]
+    return met[:1] == planted[:1] and all(fault in met for fault in planted)
+
+
+def drawn_for(random, kind, faults):
+    """Inputs in which the faults can be planted. Without nodes, the first sample may have entries and the second one nodes."""
+    if any(fault.row == 12 for fault in faults):
+        samples = [network(random, random.choice((0, 0, 3)) if k else 0, moderate) for k in (0, 1)]
+        if random.chance(50):
+            samples[0].update({"row starts": [2], "columns": [0, random.below(3)], "values": [ONE, ONE]})
+        return step_inputs(random, kind, samples, moderate_tau(random), [])
+    n = random.between(2, 5)
+    signal = signal_list(random, n, ordinary, 5)
+    return step_inputs(random, kind, two_patterns(random, n, moderate), moderate_tau(random), signal)
+
+
+def with_faults(random, kind, faults):
+    """Inputs of a step that show these faults, which stand in the order of its checks."""
+    for _ in range(10000):
+        inputs = drawn_for(random, kind, faults)
+        for fault in faults:
+            fault.plant(random, inputs)
+        if shown(kind, inputs, faults):
+            return inputs
+    raise ValueError(f"no inputs show {[(fault.row, fault.place) for fault in faults]}")
+
+
+def refused(random, kind, triples):
+    """Each fault alone, twice in a sample and six times elsewhere; each pair of faults; and some triples."""
+    faults = FAULTS_OF_STEPS[kind]
+    chosen = [[fault] for fault in faults for _ in range(2 if fault.row in ROWS_OF_PATTERNS else 6)]
+    chosen += combinations(faults, 2)
+    while triples > 0:
+        three = sorted({random.below(len(faults)) for _ in range(3)})
+        if len(three) == 3 and can_stand_together([faults[i] for i in three]):
+            chosen.append([faults[i] for i in three])
+            triples -= 1
+    for some in chosen:
+        if can_stand_together(some):
+            yield with_faults(random, kind, some)
