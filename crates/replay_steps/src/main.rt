@@ -6,13 +6,12 @@ use replay::Tally;
 use replay::next_case;
 
 mod steps;
+mod weighted_steps;
 
-// A case of a kind, counted as right or wrong: whether its call does what the case says. Kinds 9 and 10, weighted steps,
-// are passed over.
+// A case of a kind, counted as right or wrong: whether its call does what the case says.
 fn counted(kind: u64, fields: &[u8], tally: Tally) -> Tally {
     match kind {
-        7..=8 => tally.counted(step_right(kind, fields)),
-        9..=10 => tally,
+        7..=10 => tally.counted(step_right(kind, fields)),
         _ => tally.counted(false),
     }
 }

@@ -1,5 +1,8 @@
-// The steps of order 4: kinds 7 (forward) and 8 (adjoint). The arrays have room for every slice that a case of 65,536
-// bytes can have, and for the work slices of the list.
+// The steps of order 4: kinds 7 (forward), 8 (adjoint), 9 (weighted forward) and 10 (weighted adjoint). The arrays have
+// room for every slice that a case of 65,536 bytes can have, and for the work slices of the list.
+use crate::weighted_steps::is_weighted;
+use crate::weighted_steps::read_weights;
+use crate::weighted_steps::weighted_step;
 use error::Checked;
 use float::bits::from_bits;
 use float::bits::has_bits;
@@ -17,22 +20,38 @@ use replay::kernel::byte;
 // The most elements that a work slice of the list has.
 const MOST_WORK: usize = 8192;
 
-// The numbers of a step: its length, the spectral bound, and whether row 8 is checked.
+// The numbers of a step: its length, the spectral bound, the bound of the weights' roots, whether row 8 is checked, and
+// the position of the field after them.
 struct Numbers {
     tau: f64,
     rho_bar_max: f64,
+    a_sup_max: f64,
     convergence_radius_check: bool,
+    next: usize,
 }
 
-// The numbers at a position. They take 17 bytes.
-fn numbers_at(fields: &[u8], at: usize) -> Numbers {
+// The numbers at a position. They take 17 bytes, and 8 more for the bound of the roots, which only a weighted step has;
+// it is 0 in the others, which do not take it.
+fn numbers_at(kind: u64, fields: &[u8], at: usize) -> Numbers {
     let tau = from_bits(number64(fields, at));
     let rho_bar_max = from_bits(number64(fields, further(at, 8)));
     let convergence_radius_check = byte(fields, further(at, 16)) == 1;
+    let unweighted_end = further(at, 17);
+    if is_weighted(kind) {
+        return Numbers {
+            tau,
+            rho_bar_max,
+            a_sup_max: from_bits(number64(fields, unweighted_end)),
+            convergence_radius_check,
+            next: further(at, 25),
+        };
+    }
     Numbers {
         tau,
         rho_bar_max,
+        a_sup_max: 0.0,
         convergence_radius_check,
+        next: unweighted_end,
     }
 }
 
@@ -47,9 +66,19 @@ fn work_right(work: &[f64], cleared: usize, before: u64) -> bool {
     true
 }
 
+// How many elements of the work slice an accepted step of a kind clears: 5n, or 9n where it is weighted.
+fn cleared_by(kind: u64, dst: &[f64]) -> usize {
+    if is_weighted(kind) {
+        9 * dst.len()
+    } else {
+        5 * dst.len()
+    }
+}
+
 // Whether a step answered and wrote what stands at a position, and left the work slice as it must. An accepted step has
-// an output of n elements and clears 5n elements of the work slice; a refused one clears none.
+// an output of n elements; a refused one clears nothing of the work slice.
 fn outcome_right(
+    kind: u64,
     checked: Checked,
     dst: &[f64],
     work: &[f64],
@@ -58,11 +87,11 @@ fn outcome_right(
     at: usize,
 ) -> bool {
     let accepted = is_acceptance(answer_at(fields, at));
-    let cleared = if accepted { 5 * dst.len() } else { 0 };
+    let cleared = if accepted { cleared_by(kind, dst) } else { 0 };
     written_right(checked, dst, fields, at) && work_right(work, cleared, before)
 }
 
-// The step of a kind: forward at kind 7, or else adjoint.
+// The step of a kind: forward at kind 7, adjoint at kind 8, or else weighted. Only a weighted step takes the weights.
 fn stepped(
     kind: u64,
     n1: usize,
@@ -74,6 +103,8 @@ fn stepped(
     col_idx2: &[u32],
     vals2: &[f64],
     numbers: Numbers,
+    a1: &[f64],
+    a2: &[f64],
     src: &[f64],
     dst: &mut [f64],
     work: &mut [f64],
@@ -81,6 +112,28 @@ fn stepped(
     let tau = numbers.tau;
     let rho_bar_max = numbers.rho_bar_max;
     let convergence_radius_check = numbers.convergence_radius_check;
+    if is_weighted(kind) {
+        return weighted_step(
+            kind,
+            n1,
+            row_ptr1,
+            col_idx1,
+            vals1,
+            n2,
+            row_ptr2,
+            col_idx2,
+            vals2,
+            tau,
+            rho_bar_max,
+            numbers.a_sup_max,
+            convergence_radius_check,
+            a1,
+            a2,
+            src,
+            dst,
+            work,
+        );
+    }
     if kind == 7 {
         return apply_exp_omega4_kernel(
             n1,
@@ -130,6 +183,8 @@ fn call_right(
     col_idx2: &[u32],
     vals2: &[f64],
     numbers: Numbers,
+    a1: &[f64],
+    a2: &[f64],
     src: &[f64],
     dst: &mut [f64],
     fields: &[u8],
@@ -154,14 +209,16 @@ fn call_right(
         col_idx2,
         vals2,
         numbers,
+        a1,
+        a2,
         src,
         dst,
         work,
     );
-    outcome_right(checked, dst, work, before, fields, further(at, 16))
+    outcome_right(kind, checked, dst, work, before, fields, further(at, 16))
 }
 
-// The same for the numbers, the signal and the output before, which stand first at the position.
+// The same for the signal and the output before, which stand first at the position.
 fn vectors_right(
     kind: u64,
     n1: usize,
@@ -172,13 +229,15 @@ fn vectors_right(
     row_ptr2: &[usize],
     col_idx2: &[u32],
     vals2: &[f64],
+    numbers: Numbers,
+    a1: &[f64],
+    a2: &[f64],
     fields: &[u8],
     at: usize,
 ) -> bool {
     let mut signals = [0.0; 8192];
     let mut outputs = [0.0; 8192];
-    let numbers = numbers_at(fields, at);
-    let src = read_reals(fields, further(at, 17), &mut signals);
+    let src = read_reals(fields, at, &mut signals);
     let dst = read_reals(fields, src.next, &mut outputs);
     let s = src.count;
     let d = dst.count;
@@ -193,10 +252,51 @@ fn vectors_right(
         col_idx2,
         vals2,
         numbers,
+        a1,
+        a2,
         &signals[..s],
         &mut outputs[..d],
         fields,
         dst.next,
+    )
+}
+
+// The same for the numbers and the weights, which stand first at the position.
+fn weights_right(
+    kind: u64,
+    n1: usize,
+    row_ptr1: &[usize],
+    col_idx1: &[u32],
+    vals1: &[f64],
+    n2: usize,
+    row_ptr2: &[usize],
+    col_idx2: &[u32],
+    vals2: &[f64],
+    fields: &[u8],
+    at: usize,
+) -> bool {
+    let mut weights1 = [0.0; 8192];
+    let mut weights2 = [0.0; 8192];
+    let numbers = numbers_at(kind, fields, at);
+    let first = read_weights(kind, fields, numbers.next, &mut weights1);
+    let second = read_weights(kind, fields, first.next, &mut weights2);
+    let w1 = first.count;
+    let w2 = second.count;
+    vectors_right(
+        kind,
+        n1,
+        row_ptr1,
+        col_idx1,
+        vals1,
+        n2,
+        row_ptr2,
+        col_idx2,
+        vals2,
+        numbers,
+        &weights1[..w1],
+        &weights2[..w2],
+        fields,
+        second.next,
     )
 }
 
@@ -217,7 +317,7 @@ fn second_sample_right(
     let r = sample.starts;
     let c = sample.columns;
     let v = sample.values;
-    vectors_right(
+    weights_right(
         kind,
         n1,
         row_ptr1,
