@@ -1,5 +1,7 @@
 //! The proved calls, as the crate `bench` exports them: a slice passes as a pointer and then its length.
 
+use crate::networks::Network;
+
 mod exported {
     extern "C" {
         pub fn bench_from_csr_parts(
@@ -38,6 +40,63 @@ mod exported {
             dst: *mut f64,
             dst_len: usize,
         );
+
+        pub fn bench_apply_exp_omega4_kernel(
+            n1: usize,
+            row_ptr1: *const usize,
+            row_ptr1_len: usize,
+            col_idx1: *const u32,
+            col_idx1_len: usize,
+            vals1: *const f64,
+            vals1_len: usize,
+            n2: usize,
+            row_ptr2: *const usize,
+            row_ptr2_len: usize,
+            col_idx2: *const u32,
+            col_idx2_len: usize,
+            vals2: *const f64,
+            vals2_len: usize,
+            tau: f64,
+            rho_bar_max: f64,
+            convergence_radius_check: bool,
+            src: *const f64,
+            src_len: usize,
+            dst: *mut f64,
+            dst_len: usize,
+            work: *mut f64,
+            work_len: usize,
+        ) -> u32;
+
+        pub fn bench_apply_exp_omega4_la_kernel(
+            n1: usize,
+            row_ptr1: *const usize,
+            row_ptr1_len: usize,
+            col_idx1: *const u32,
+            col_idx1_len: usize,
+            vals1: *const f64,
+            vals1_len: usize,
+            n2: usize,
+            row_ptr2: *const usize,
+            row_ptr2_len: usize,
+            col_idx2: *const u32,
+            col_idx2_len: usize,
+            vals2: *const f64,
+            vals2_len: usize,
+            tau: f64,
+            rho_bar_max: f64,
+            a_sup_max: f64,
+            convergence_radius_check: bool,
+            a1: *const f64,
+            a1_len: usize,
+            a2: *const f64,
+            a2_len: usize,
+            src: *const f64,
+            src_len: usize,
+            dst: *mut f64,
+            dst_len: usize,
+            work: *mut f64,
+            work_len: usize,
+        ) -> u32;
     }
 }
 
@@ -101,4 +160,91 @@ pub unsafe fn product(row_ptr: &[usize], col_idx: &[u32], vals: &[f64], src: &[f
         dst.as_mut_ptr(),
         dst.len(),
     );
+}
+
+/// A step of order 4 between two samples, of 5n work elements, with the radius check. 0 where it accepts.
+pub fn apply_exp_omega4_kernel(
+    samples: [&Network; 2],
+    tau: f64,
+    rho_bar_max: f64,
+    src: &[f64],
+    dst: &mut [f64],
+    work: &mut [f64],
+) -> u32 {
+    let [first, second] = samples;
+    // SAFETY: each pointer and length is a slice's; the call reads within them and writes within the last two only.
+    unsafe {
+        exported::bench_apply_exp_omega4_kernel(
+            first.n,
+            first.row_ptr.as_ptr(),
+            first.row_ptr.len(),
+            first.col_idx.as_ptr(),
+            first.col_idx.len(),
+            first.vals.as_ptr(),
+            first.vals.len(),
+            second.n,
+            second.row_ptr.as_ptr(),
+            second.row_ptr.len(),
+            second.col_idx.as_ptr(),
+            second.col_idx.len(),
+            second.vals.as_ptr(),
+            second.vals.len(),
+            tau,
+            rho_bar_max,
+            true,
+            src.as_ptr(),
+            src.len(),
+            dst.as_mut_ptr(),
+            dst.len(),
+            work.as_mut_ptr(),
+            work.len(),
+        )
+    }
+}
+
+/// The same with the weights of the nodes at the two times, of 9n work elements.
+pub fn apply_exp_omega4_la_kernel(
+    samples: [&Network; 2],
+    tau: f64,
+    rho_bar_max: f64,
+    a_sup_max: f64,
+    weights: [&[f64]; 2],
+    src: &[f64],
+    dst: &mut [f64],
+    work: &mut [f64],
+) -> u32 {
+    let [first, second] = samples;
+    // SAFETY: each pointer and length is a slice's; the call reads within them and writes within the last two only.
+    unsafe {
+        exported::bench_apply_exp_omega4_la_kernel(
+            first.n,
+            first.row_ptr.as_ptr(),
+            first.row_ptr.len(),
+            first.col_idx.as_ptr(),
+            first.col_idx.len(),
+            first.vals.as_ptr(),
+            first.vals.len(),
+            second.n,
+            second.row_ptr.as_ptr(),
+            second.row_ptr.len(),
+            second.col_idx.as_ptr(),
+            second.col_idx.len(),
+            second.vals.as_ptr(),
+            second.vals.len(),
+            tau,
+            rho_bar_max,
+            a_sup_max,
+            true,
+            weights[0].as_ptr(),
+            weights[0].len(),
+            weights[1].as_ptr(),
+            weights[1].len(),
+            src.as_ptr(),
+            src.len(),
+            dst.as_mut_ptr(),
+            dst.len(),
+            work.as_mut_ptr(),
+            work.len(),
+        )
+    }
 }

@@ -1,8 +1,10 @@
-//! The row product beside the published Rust's, in one process and on the same networks: the product alone, the whole checked
-//! call, and the pattern check alone. The results must be the Rust's bit for bit; else it stops.
+//! The row product and the steps of order 4 beside the published Rust's, in one process and on the same networks: the product
+//! alone, the whole checked call and the pattern check alone, and whole steps. The results must be the Rust's bit for bit; else
+//! it stops.
 
 mod archive;
 mod networks;
+mod steps;
 mod timing;
 
 use std::hint::black_box;
@@ -29,6 +31,18 @@ fn compare(what: &str, number: u32, ours: &[f64], rust: &[f64]) {
     }
 }
 
+/// The Rust's Laplacian of a network.
+fn laplacian_of(network: &Network) -> Laplacian<f64> {
+    Laplacian::from_csr_parts(
+        network.n,
+        network.row_ptr.clone(),
+        network.col_idx.clone(),
+        network.vals.clone(),
+        LaplacianKind::GeneralSymmetric,
+    )
+    .expect("the Rust accepts the network")
+}
+
 /// Nanoseconds of the Rust's product, our product, our whole call and our pattern check.
 fn measure(network: &Network) -> [f64; 4] {
     let Network {
@@ -38,14 +52,7 @@ fn measure(network: &Network) -> [f64; 4] {
         vals,
         signal,
     } = network;
-    let laplacian = Laplacian::from_csr_parts(
-        *n,
-        row_ptr.clone(),
-        col_idx.clone(),
-        vals.clone(),
-        LaplacianKind::GeneralSymmetric,
-    )
-    .expect("the Rust accepts the network");
+    let laplacian = laplacian_of(network);
     let (mut rust, mut alone, mut whole) = (vec![0.0; *n], vec![1.0; *n], vec![1.0; *n]);
 
     rust_product(&laplacian, signal, &mut rust);
@@ -97,4 +104,5 @@ fn main() {
             );
         }
     }
+    steps::print(&mut random);
 }

@@ -43,7 +43,7 @@ impl Random {
     }
 
     /// From -1 up to 1.
-    fn real(&mut self) -> f64 {
+    pub fn real(&mut self) -> f64 {
         (self.bits() >> 11) as f64 / (1_u64 << 52) as f64 - 1.0
     }
 }
@@ -71,6 +71,17 @@ impl Network {
             col_idx,
             vals,
             signal,
+        }
+    }
+
+    /// The network at another time: the same rows and columns, in slices of its own, with other values.
+    pub fn at_another_time(&self, random: &mut Random) -> Self {
+        Self {
+            n: self.n,
+            row_ptr: self.row_ptr.clone(),
+            col_idx: self.col_idx.clone(),
+            vals: self.vals.iter().map(|_| random.real()).collect(),
+            signal: self.signal.clone(),
         }
     }
 }

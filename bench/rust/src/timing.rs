@@ -14,8 +14,8 @@ fn run(function: &mut dyn FnMut(), calls: usize) -> f64 {
     begin.elapsed().as_nanos() as f64 / calls as f64
 }
 
-/// Nanoseconds a call of each function: the median of many runs. In each turn every function has one run.
-pub fn medians<const N: usize>(functions: &mut [&mut dyn FnMut(); N]) -> [f64; N] {
+/// Nanoseconds a call of each function, in many runs, least first. In each turn every function has one run.
+fn sorted<const N: usize>(functions: &mut [&mut dyn FnMut(); N]) -> [Vec<f64>; N] {
     let calls = functions.each_mut().map(|function| {
         run(function, 10);
         (RUN / run(function, 100).max(1.0)).ceil() as usize
@@ -28,6 +28,16 @@ pub fn medians<const N: usize>(functions: &mut [&mut dyn FnMut(); N]) -> [f64; N
     }
     times.map(|mut of_one| {
         of_one.sort_by(f64::total_cmp);
-        of_one[RUNS / 2]
+        of_one
     })
+}
+
+/// Nanoseconds a call of each function: the median of many runs.
+pub fn medians<const N: usize>(functions: &mut [&mut dyn FnMut(); N]) -> [f64; N] {
+    sorted(functions).map(|of_one| of_one[RUNS / 2])
+}
+
+/// Nanoseconds a call of each function: the least of many runs, which other work on the machine disturbs least.
+pub fn minima<const N: usize>(functions: &mut [&mut dyn FnMut(); N]) -> [f64; N] {
+    sorted(functions).map(|of_one| of_one[0])
 }

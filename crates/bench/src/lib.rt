@@ -2,8 +2,10 @@
 use error::Checked;
 use graph::apply_into_slice;
 use graph::from_csr_parts;
+use magnus_graph::apply_exp_omega4_kernel;
 use square_root::kernel::sqrt_into_slice;
 use square_root::sqrt;
+use varcoef_magnus_graph::apply_exp_omega4_la_kernel;
 
 pub mod kernel;
 
@@ -51,4 +53,82 @@ pub extern "C" fn bench_apply_into_slice(
     dst: &mut [f64],
 ) -> u32 {
     refused(apply_into_slice(n, row_ptr, col_idx, vals, src, dst))
+}
+
+// The step of order 4 with its checks.
+#[no_mangle]
+pub extern "C" fn bench_apply_exp_omega4_kernel(
+    n1: usize,
+    row_ptr1: &[usize],
+    col_idx1: &[u32],
+    vals1: &[f64],
+    n2: usize,
+    row_ptr2: &[usize],
+    col_idx2: &[u32],
+    vals2: &[f64],
+    tau: f64,
+    rho_bar_max: f64,
+    convergence_radius_check: bool,
+    src: &[f64],
+    dst: &mut [f64],
+    work: &mut [f64],
+) -> u32 {
+    refused(apply_exp_omega4_kernel(
+        n1,
+        row_ptr1,
+        col_idx1,
+        vals1,
+        n2,
+        row_ptr2,
+        col_idx2,
+        vals2,
+        tau,
+        rho_bar_max,
+        convergence_radius_check,
+        src,
+        dst,
+        work,
+    ))
+}
+
+// The step of order 4 with node weights, with its checks.
+#[no_mangle]
+pub extern "C" fn bench_apply_exp_omega4_la_kernel(
+    n1: usize,
+    row_ptr1: &[usize],
+    col_idx1: &[u32],
+    vals1: &[f64],
+    n2: usize,
+    row_ptr2: &[usize],
+    col_idx2: &[u32],
+    vals2: &[f64],
+    tau: f64,
+    rho_bar_max: f64,
+    a_sup_max: f64,
+    convergence_radius_check: bool,
+    a1: &[f64],
+    a2: &[f64],
+    src: &[f64],
+    dst: &mut [f64],
+    work: &mut [f64],
+) -> u32 {
+    refused(apply_exp_omega4_la_kernel(
+        n1,
+        row_ptr1,
+        col_idx1,
+        vals1,
+        n2,
+        row_ptr2,
+        col_idx2,
+        vals2,
+        tau,
+        rho_bar_max,
+        a_sup_max,
+        convergence_radius_check,
+        a1,
+        a2,
+        src,
+        dst,
+        work,
+    ))
 }
