@@ -62,3 +62,7 @@ module _ {K : Type 0} (A : Arithmetic K) where
   -- s times x, at each of n places
   abbrev pub scaled : ℕ → K → List K → List K
   scaled n s x = tabulate (λ i. s * at x i) n
+
+  -- x times y, at each of n places
+  abbrev pub multiplied : ℕ → List K → List K → List K
+  multiplied n = vectors n ._*_

@@ -26,6 +26,11 @@ pub record Pattern (n : ℕ) (starts cols : List ℕ) : Type 0 where
   pub rows : Rows n starts (length cols)
   pub inside : (k : ℕ) → k < length cols → getD cols k 0 < n
 
+-- a pattern with a value for each entry (row 3), whatever the values are: what a product asks of a sample
+pub record ValuedPattern (n : ℕ) (starts cols : List ℕ) (vals : List Float) : Type 0 where
+  pub pattern : Pattern n starts cols
+  pub count : length vals ≡ length cols
+
 -- a Laplacian: a pattern with a value for each entry (row 3), every one finite (row 5)
 pub record Laplacian (n : ℕ) (starts cols : List ℕ) (vals : List Float) : Type 0 where
   pub pattern : Pattern n starts cols

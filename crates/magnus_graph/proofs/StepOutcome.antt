@@ -14,13 +14,13 @@ use Rattle.error.specs.declared.Refusal.{Refusal}
 use Rattle.error.specs.declared.Checked.{Checked}
 use Rattle.error.specs.declared.Checked.the-variants.{Accepted, Refused}
 use Rattle.error.proofs.Left.{answers, answers-accepted, left-unchanged, left-written}
-use Rattle.graph.specs.Pattern.{Laplacian}
+use Rattle.graph.specs.Pattern.{Laplacian, ValuedPattern}
 use Rattle.graph.specs.RowProduct.{rowProduct64}
 use Rattle.magnus.specs.Operators.{plainSum}
 use Rattle.magnus.specs.Coefficients.{reciprocalFactorial}
 use Rattle.magnus.specs.Agree.{OfFormat}
 use Rattle.magnus.proofs.PlainSum.{samples-plain-sum}
-use Rattle.magnus_graph.specs.Omega4.{ValuedPattern, sqrt3Over12, expOmega4}
+use Rattle.magnus_graph.specs.Omega4.{sqrt3Over12, expOmega4}
 use Rattle.magnus_graph_helpers.specs.AcceptedStep.{StepInputs}
 use Rattle.magnus_graph.specs.StepOutcome.{StepInput, stepAnswer, Stepped}
 use Rattle.magnus_graph_helpers.proofs.StepSound.{step-accepted}

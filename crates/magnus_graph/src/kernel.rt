@@ -1,25 +1,38 @@
-// The step of order 4 (01, part 6) for callers that have checked its arguments.
+// The step of order 4 (01, part 6) for callers that have checked its arguments. L1 and L2 are the products with the two
+// samples. The step's vectors of n places lie one after the other in the work slice:
+//   0   the sum so far, at first the signal and at last the answer
+//   n   v, the signal and then its images under Ω; while Ωv is formed, d = L1 b
+//   2n  a = L1 v
+//   3n  b = L2 v
+//   4n  c = L2 a
 ghost use mathlib.Core.Path.{_≡_};
 ghost use Prim.Native.Nat.{_+_, _*_, _≤_};
 ghost use lib.ListN.{length};
 ghost use lib.Ieee.{binary64};
 ghost use Rattle.rounding.specs.StepLength.{minusHalf};
 ghost use Rattle.arithmetic.specs.Arithmetic.{ieee};
-ghost use Rattle.arithmetic.specs.Product.{plusScaled};
 ghost use Rattle.scratch.specs.Parts.{part, put, Apart, zeros};
+ghost use Rattle.graph.specs.Pattern.{ValuedPattern};
 ghost use Rattle.graph.specs.RowProduct.{rowProduct64};
 ghost use Rattle.magnus.specs.Operators.{omega4};
 ghost use Rattle.magnus.specs.Coefficients.{reciprocalFactorial};
-ghost use Rattle.magnus_graph.specs.Omega4.{ValuedPattern, omega4From, TermAdded, TermsAdded, expOmega4};
-use graph::kernel::row_sum;
+ghost use Rattle.magnus_graph_helpers.specs.Terms.{TermAdded, TermsAdded};
+ghost use Rattle.magnus_graph.specs.Omega4.{expOmega4};
+use graph::kernel::product_in;
+use magnus_graph_helpers::kernel::omega_sum;
+use magnus_graph_helpers::kernel::reciprocal_factorial;
+use scratch::kernel::add_scaled;
 use scratch::kernel::clear;
+use scratch::kernel::copy_within;
 use scratch::kernel::load;
+use scratch::kernel::store;
 
 // The literal for √3/12 of the unweighted steps; its bits are those of sqrt3Over12 in specs/Omega4.antt.
 pub const SQRT3_OVER_12_F64: f64 = 0.144_337_567_297_406_433;
 
-// The vector at `first` becomes L1 v and the one at `second` L2 v, for the vector v at `source`.
-pub fn two_products(
+// The product of the first sample with the vector at `source1`, to `target1`, and then that of the second sample with the
+// vector at `source2`, to `target2`.
+fn two_products(
     row_ptr1: &[usize],
     col_idx1: &[u32],
     vals1: &[f64],
@@ -28,72 +41,27 @@ pub fn two_products(
     vals2: &[f64],
     work: &mut [f64],
     n: usize,
-    source: usize,
-    first: usize,
-    second: usize,
+    source1: usize,
+    target1: usize,
+    source2: usize,
+    target2: usize,
 )
     requires { ⌜ ValuedPattern n (now «row_ptr1») (now «col_idx1») (now vals1) ⌝ }
     requires { ⌜ ValuedPattern n (now «row_ptr2») (now «col_idx2») (now vals2) ⌝ }
-    requires { ⌜ (source + n ≤ length (now work)) × (first + n ≤ length (now work)) × (second + n ≤ length (now work)) ⌝ }
-    requires { ⌜ Apart n source first × Apart n source second × Apart n first second ⌝ }
-    ensures { λ _. let w = now (work .entry) in
-        let v = part source n w in
-        let L1v = rowProduct64 n (now («row_ptr1» .entry)) (now («col_idx1» .entry)) (now (vals1 .entry)) v in
-        let L2v = rowProduct64 n (now («row_ptr2» .entry)) (now («col_idx2» .entry)) (now (vals2 .entry)) v in
-        ⌜ now (work .exit) ≡ put second L2v (put first L1v w) ⌝ }
-{
-    let source_end = source + n;
-    for i in 0..n {
-        let x = row_sum(row_ptr1, col_idx1, vals1, &work[source..source_end], i);
-        let y = row_sum(row_ptr2, col_idx2, vals2, &work[source..source_end], i);
-        work[first + i] = x;
-        work[second + i] = y;
-    }
-}
-
-// From a = L1 v and b = L2 v, the vectors at `a` and `b`, one walk forms Ωv, writes it at `target` and adds
-// coefficient · Ωv to out.
-pub fn omega_term(
-    row_ptr1: &[usize],
-    col_idx1: &[u32],
-    vals1: &[f64],
-    row_ptr2: &[usize],
-    col_idx2: &[u32],
-    vals2: &[f64],
-    work: &mut [f64],
-    n: usize,
-    a: usize,
-    b: usize,
-    target: usize,
-    scale: f64,
-    comm_scale: f64,
-    coefficient: f64,
-    out: &mut [f64],
-)
-    requires { ⌜ ValuedPattern n (now «row_ptr1») (now «col_idx1») (now vals1) ⌝ }
-    requires { ⌜ ValuedPattern n (now «row_ptr2») (now «col_idx2») (now vals2) ⌝ }
-    requires { ⌜ (a + n ≤ length (now work)) × (b + n ≤ length (now work)) × (target + n ≤ length (now work)) ⌝ }
-    requires { ⌜ Apart n a target × Apart n b target × (length (now out) ≡ n) ⌝ }
+    requires { ⌜ (source1 + n ≤ length (now work)) × (target1 + n ≤ length (now work)) × Apart n source1 target1 ⌝ }
+    requires { ⌜ (source2 + n ≤ length (now work)) × (target2 + n ≤ length (now work)) × Apart n source2 target2 ⌝ }
     ensures { λ _. let w = now (work .entry) in
         let L1 = rowProduct64 n (now («row_ptr1» .entry)) (now («col_idx1» .entry)) (now (vals1 .entry)) in
         let L2 = rowProduct64 n (now («row_ptr2» .entry)) (now («col_idx2» .entry)) (now (vals2 .entry)) in
-        let Ωv = omega4From (ieee binary64) n scale «comm_scale» L1 L2 (part a n w) (part b n w) in
-        ⌜ (now (work .exit) ≡ put target Ωv w)
-        × (now (out .exit) ≡ plusScaled (ieee binary64) n (now (out .entry)) coefficient Ωv) ⌝ }
+        let w1 = put target1 (L1 (part source1 n w)) w in
+        ⌜ now (work .exit) ≡ put target2 (L2 (part source2 n w1)) w1 ⌝ }
 {
-    let a_end = a + n;
-    let b_end = b + n;
-    for i in 0..n {
-        let c = row_sum(row_ptr2, col_idx2, vals2, &work[a..a_end], i);
-        let d = row_sum(row_ptr1, col_idx1, vals1, &work[b..b_end], i);
-        let w = scale * (work[a + i] + work[b + i]) + comm_scale * (c - d);
-        work[target + i] = w;
-        out[i] = out[i] + coefficient * w;
-    }
+    product_in(row_ptr1, col_idx1, vals1, work, n, source1, target1);
+    product_in(row_ptr2, col_idx2, vals2, work, n, source2, target2);
 }
 
-// One term of the Taylor sum (`apply_omega4` and `axpy_into_slice` of the Rust): the vector v at 0 becomes Ωv, and
-// coefficient · Ωv is added to out. The vectors at n and 2n are overwritten.
+// One term of the Taylor sum (`apply_omega4` and `axpy_into_slice` of the Rust): v becomes Ωv, and coefficient · Ωv is
+// added to the sum.
 fn taylor_term(
     row_ptr1: &[usize],
     col_idx1: &[u32],
@@ -105,20 +73,21 @@ fn taylor_term(
     sign: f64,
     s: f64,
     coefficient: f64,
-    out: &mut [f64],
     work: &mut [f64],
     n: usize,
 )
     requires { ⌜ ValuedPattern n (now «row_ptr1») (now «col_idx1») (now vals1) ⌝ }
     requires { ⌜ ValuedPattern n (now «row_ptr2») (now «col_idx2») (now vals2) ⌝ }
-    requires { ⌜ (length (now out) ≡ n) × (3 * n ≤ length (now work)) ⌝ }
+    requires { ⌜ 5 * n ≤ length (now work) ⌝ }
     ensures { λ _. let A = ieee binary64 in
         let L1 = rowProduct64 n (now («row_ptr1» .entry)) (now («col_idx1» .entry)) (now (vals1 .entry)) in
         let L2 = rowProduct64 n (now («row_ptr2» .entry)) (now («col_idx2» .entry)) (now (vals2 .entry)) in
-        ⌜ TermAdded A n (3 * n) (omega4 A n minusHalf s sign tau L1 L2) coefficient
-        (now (out .entry)) (now (work .entry)) (now (out .exit)) (now (work .exit)) ⌝ }
+        ⌜ TermAdded A n (5 * n) (omega4 A n minusHalf s sign tau L1 L2) coefficient
+        (now (work .entry)) (now (work .exit)) ⌝ }
 {
-    let b = 2 * n;
+    let a = 2 * n;
+    let b = 3 * n;
+    let c = 4 * n;
     let scale = -0.5 * tau;
     let comm_scale = sign * s * tau * tau;
     two_products(
@@ -130,11 +99,12 @@ fn taylor_term(
         vals2,
         work,
         n,
-        0,
+        n,
+        a,
         n,
         b,
     );
-    omega_term(
+    two_products(
         row_ptr1,
         col_idx1,
         vals1,
@@ -143,17 +113,16 @@ fn taylor_term(
         vals2,
         work,
         n,
-        n,
         b,
-        0,
-        scale,
-        comm_scale,
-        coefficient,
-        out,
+        n,
+        a,
+        c,
     );
+    omega_sum(work, n, a, b, c, n, scale, comm_scale);
+    add_scaled(work, n, coefficient, n, 0);
 }
 
-// The four terms of the Taylor sum (`compute_taylor4` of the Rust). out and the vector at 0 are the signal at first.
+// The Taylor sum of four terms (`compute_taylor4` of the Rust): the vector at 0, the signal, becomes the step's answer.
 fn taylor4(
     row_ptr1: &[usize],
     col_idx1: &[u32],
@@ -164,80 +133,36 @@ fn taylor4(
     tau: f64,
     sign: f64,
     s: f64,
-    out: &mut [f64],
     work: &mut [f64],
     n: usize,
 )
     requires { ⌜ ValuedPattern n (now «row_ptr1») (now «col_idx1») (now vals1) ⌝ }
     requires { ⌜ ValuedPattern n (now «row_ptr2») (now «col_idx2») (now vals2) ⌝ }
-    requires { ⌜ (length (now out) ≡ n) × (3 * n ≤ length (now work)) ⌝ }
-    requires { ⌜ part 0 n (now work) ≡ now out ⌝ }
+    requires { ⌜ 5 * n ≤ length (now work) ⌝ }
     ensures { λ _. let A = ieee binary64 in
         let L1 = rowProduct64 n (now («row_ptr1» .entry)) (now («col_idx1» .entry)) (now (vals1 .entry)) in
         let L2 = rowProduct64 n (now («row_ptr2» .entry)) (now («col_idx2» .entry)) (now (vals2 .entry)) in
-        ⌜ TermsAdded A n (3 * n) (reciprocalFactorial binary64) 4 (omega4 A n minusHalf s sign tau L1 L2)
-        (now (out .entry)) (now (work .entry)) (now (out .exit)) (now (work .exit)) ⌝ }
+        ⌜ TermsAdded A n (5 * n) (reciprocalFactorial binary64) 4 (omega4 A n minusHalf s sign tau L1 L2)
+        (now (work .entry)) (now (work .exit)) ⌝ }
 {
-    taylor_term(
-        row_ptr1,
-        col_idx1,
-        vals1,
-        row_ptr2,
-        col_idx2,
-        vals2,
-        tau,
-        sign,
-        s,
-        1.0 / 1.0,
-        out,
-        work,
-        n,
-    );
-    taylor_term(
-        row_ptr1,
-        col_idx1,
-        vals1,
-        row_ptr2,
-        col_idx2,
-        vals2,
-        tau,
-        sign,
-        s,
-        1.0 / 2.0,
-        out,
-        work,
-        n,
-    );
-    taylor_term(
-        row_ptr1,
-        col_idx1,
-        vals1,
-        row_ptr2,
-        col_idx2,
-        vals2,
-        tau,
-        sign,
-        s,
-        1.0 / 6.0,
-        out,
-        work,
-        n,
-    );
-    taylor_term(
-        row_ptr1,
-        col_idx1,
-        vals1,
-        row_ptr2,
-        col_idx2,
-        vals2,
-        tau,
-        sign,
-        s,
-        1.0 / 24.0,
-        out,
-        work,
-        n,
-    );
+    copy_within(work, n, 0, n);
+    for k in 0..4 {
+        let coefficient = reciprocal_factorial(k + 1);
+        taylor_term(
+            row_ptr1,
+            col_idx1,
+            vals1,
+            row_ptr2,
+            col_idx2,
+            vals2,
+            tau,
+            sign,
+            s,
+            coefficient,
+            work,
+            n,
+        );
+    }
 }
 
 // One step of order 4 (01, part 6; `apply_exp_omega4_kernel` of the Rust): dst becomes the step's answer for the signal
@@ -266,7 +191,6 @@ pub fn step4(
         × (now (work .exit) ≡ put 0 (zeros (5 * n)) (now (work .entry))) ⌝ }
 {
     let n = src.len();
-    load(dst, 0, src);
     load(work, 0, src);
     taylor4(
         row_ptr1,
@@ -278,9 +202,9 @@ pub fn step4(
         tau,
         sign,
         s,
-        dst,
         work,
         n,
     );
+    store(work, 0, dst);
     clear(work, 5 * n);
 }

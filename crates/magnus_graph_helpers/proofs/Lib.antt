@@ -1,2 +1,3 @@
 pub mod Positive
 pub mod StepSound
+pub mod Terms

@@ -1,2 +1,3 @@
 pub mod StepChecks
 pub mod AcceptedStep
+pub mod Terms

@@ -1,2 +1,4 @@
-// The checks of the order-4 steps (the validations of magnus_graph_helpers.rs and of the steps' drivers), in document 01's order.
+// What the steps share (magnus_graph_helpers.rs and the validations of the steps' drivers): their checks in document 01's order,
+// the coefficients of a Taylor sum, and Ωv of order 4 from its products.
 pub mod check;
+pub mod kernel;

@@ -1,16 +1,16 @@
 -- The laws of vectors that lie in one list, for elements of any type: what a vector is, element by element; what
 -- writing one vector leaves of the others and of the rest; vectors written over again. Assumes nothing.
 use mathlib.Core.Path.{_≡_, refl, sym, ap, _∙_}
-use mathlib.Core.List.{List, [], _∷_, _++_, append-assoc, append-nil}
+use mathlib.Core.List.{List, [], _∷_, _++_, map, append-assoc, append-nil}
 use Prim.Native.Nat.{ℕ, suc, _+_, _-_, _≤_, _<_}
 use native.Mathlib.Nat.{zero-add, add-zero, add-suc, suc-add}
 use native.Mathlib.Decide.{decLe}
 use native.Mathlib.Omega.{arith}
-use lib.ListN.{length, getD, take, drop, set, length-take, length-drop, drop-of-length-le}
-use lib.Seq.{sets, length-sets, sets-eq, set-set, set-comm, drop-set-lt, drop-set-add, take-set-le, take-at, drop-at}
+use lib.ListN.{length, getD, take, drop, set, length-take, length-drop, length-map, drop-of-length-le}
+use lib.Seq.{sets, length-sets, sets-eq, set-set, set-comm, drop-set-lt, drop-set-add, take-set-le, take-at, drop-at, drop-drop}
 use lib.Seq.{length-take-le, take-length, getD-take, getD-drop, ext-getD}
 use Rattle.arithmetic.specs.Vector.{tabulate}
-use Rattle.arithmetic.proofs.Tabulate.{length-tabulate, getD-tabulate, tabulate-none, tabulate-next}
+use Rattle.arithmetic.proofs.Tabulate.{length-tabulate, getD-tabulate, tabulate-none, tabulate-next, tabulate-same}
 use Rattle.scratch.specs.Parts.{part, put, Apart}
 
 module _ {A : Type 0} where
@@ -29,6 +29,12 @@ module _ {A : Type 0} where
       ext-getD d _ _ (length-tabulate _ n ∙ sym (length-part at n w h))
       (λ i l. let k : i < n = (rw (length-tabulate (λ j. getD w (at + j) d) n) at l) in
       getD-tabulate _ n i d k ∙ sym (getD-part at n w i d k))
+
+  -- a vector is that of its own elements
+  pub tabulate-part : (at n : ℕ) (w : List A) (d : A) → at + n ≤ length w
+      → tabulate (λ i. getD (part at n w) i d) n ≡ part at n w
+  tabulate-part at n w d h =
+      tabulate-same _ _ n (λ i l. getD-part at n w i d l) ∙ part-elements at n w d h
 
   -- the whole list as a vector
   pub part-whole : (w : List A) → part 0 (length w) w ≡ w
@@ -64,6 +70,17 @@ module _ {A : Type 0} where
       → put at (tabulate f (i + 1)) w ≡ set (put at (tabulate f i) w) (at + i) (f i)
   unfolding put
   put-next at f i w = rw (tabulate-next, sets-snoc, length-tabulate f i)
+
+  -- the elements from index `at`, lent to a call that made them the image of src under f, are that vector written there
+  pub image-placed : {B : Type 0} (f : B → A) (at : ℕ) (src : List B) (w x : List A)
+      → at + length src ≤ length w
+      → x ≡ map f src
+      → take at w ++ (x ++ drop (at + length src - at) (drop at w)) ≡ put at (map f src) w
+  unfolding put
+  image-placed f at src w x h e =
+      let m : at + length src - at ≡ length src = omega arith in
+      let size : length (map f src) ≡ length src = length-map src f in
+      rw (e, m, drop-drop, sets-eq (map f src) w at (omega arith), size, append-assoc)
 
   -- ---- what lies before or after what is written
 

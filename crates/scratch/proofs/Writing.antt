@@ -3,7 +3,7 @@
 -- Assumes nothing.
 use mathlib.Core.Path.{_≡_, refl, sym, ap, _∙_}
 use mathlib.Core.List.{List}
-use Prim.Native.Nat.{ℕ, _+_, _≤_, _<_}
+use Prim.Native.Nat.{ℕ, _+_, _-_, _≤_, _<_}
 use native.Mathlib.Omega.{arith}
 use lib.ListN.{length, getD, set, length-set}
 use Rattle.arithmetic.specs.Vector.{tabulate}
@@ -11,6 +11,10 @@ use Rattle.arithmetic.proofs.Tabulate.{length-tabulate}
 use Rattle.scratch.specs.Parts.{part, put, Apart}
 use Rattle.scratch.proofs.Parts.{put-none, put-next, getD-part, part-of-put-apart}
 use Rattle.scratch.proofs.Parts.{getD-of-put-after, set-of-put-apart, put-whole}
+
+-- after a turn fewer are left
+pub fewer-turns : (n i : ℕ) → i < n → n - (i + 1) < n - i
+fewer-turns n i h = omega arith
 
 module _ {A : Type 0} where
   -- i of n turns have written f 0, .., f (i - 1) from index `at` over w₀, which has become w

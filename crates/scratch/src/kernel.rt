@@ -4,7 +4,7 @@ ghost use mathlib.Core.Path.{_≡_};
 ghost use Prim.Native.Nat.{_+_, _≤_};
 ghost use lib.ListN.{length};
 ghost use lib.Ieee.{binary64};
-ghost use Rattle.arithmetic.specs.Arithmetic.{ieee};
+ghost use Rattle.arithmetic.specs.Arithmetic.{ieee, multiplied};
 ghost use Rattle.arithmetic.specs.Product.{plusScaled};
 ghost use Rattle.scratch.specs.Parts.{part, put, Apart, zeros};
 
@@ -35,6 +35,29 @@ pub fn store(work: &[f64], at: usize, out: &mut [f64])
 {
     for i in 0..out.len() {
         out[i] = work[at + i];
+    }
+}
+
+// The vector at `target` becomes the one at `source`.
+pub fn copy_within(work: &mut [f64], n: usize, source: usize, target: usize)
+    requires { ⌜ (source + n ≤ length (now work)) × (target + n ≤ length (now work)) × Apart n source target ⌝ }
+    ensures { λ _. let w = now (work .entry) in
+        ⌜ now (work .exit) ≡ put target (part source n w) w ⌝ }
+{
+    for i in 0..n {
+        work[target + i] = work[source + i];
+    }
+}
+
+// The vector at `target` becomes the product, at each place, of those at x and y.
+pub fn multiply(work: &mut [f64], n: usize, x: usize, y: usize, target: usize)
+    requires { ⌜ (x + n ≤ length (now work)) × (y + n ≤ length (now work)) × (target + n ≤ length (now work)) ⌝ }
+    requires { ⌜ Apart n x target × Apart n y target ⌝ }
+    ensures { λ _. let w = now (work .entry) in
+        ⌜ now (work .exit) ≡ put target (multiplied (ieee binary64) n (part x n w) (part y n w)) w ⌝ }
+{
+    for i in 0..n {
+        work[target + i] = work[x + i] * work[y + i];
     }
 }
 

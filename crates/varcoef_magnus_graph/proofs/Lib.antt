@@ -1,5 +1,3 @@
-pub mod Vectors
-pub mod Walks
 pub mod Terms
 pub mod RootsAgree
 pub mod StepOutcome

@@ -15,13 +15,14 @@ use Rattle.error.specs.declared.Refusal.{Refusal}
 use Rattle.error.specs.declared.Checked.{Checked}
 use Rattle.error.specs.declared.Checked.the-variants.{Accepted, Refused}
 use Rattle.error.proofs.Left.{answers, answers-accepted, left-unchanged, left-written}
+use Rattle.graph.specs.Pattern.{ValuedPattern}
 use Rattle.graph.specs.RowProduct.{rowProduct64}
 use Rattle.magnus.specs.Operators.{weighted, plainSum}
 use Rattle.magnus.specs.Coefficients.{reciprocalFactorial}
 use Rattle.magnus.specs.Agree.{OfFormat}
 use Rattle.magnus.proofs.Agree.{agree-same}
 use Rattle.magnus.proofs.PlainSum.{weighted-samples-plain-sum}
-use Rattle.magnus_graph.specs.Omega4.{ValuedPattern, expOmega4}
+use Rattle.magnus_graph.specs.Omega4.{expOmega4}
 use Rattle.magnus_graph.proofs.StepOutcome.{valued}
 use Rattle.magnus_graph_helpers.specs.AcceptedStep.{AcceptedWeightedStep}
 use Rattle.magnus_graph_helpers.proofs.StepSound.{weighted-step-accepted}

@@ -1,29 +1,37 @@
 // The weighted step of order 4 (01, part 7) for callers that have checked its arguments. L1 and L2 are the products with
 // the two samples, r1 and r2 the square roots of their weights, and a weighted product is r · (L (r · v)) at each place.
 // The step's vectors of n places lie one after the other in the work slice:
-//   0      v, the signal and then its images under Ω
-//   n, 2n  x1 = r1 · v and x2 = r2 · v, the scaled signals
-//   3n, 4n a = r1 · L1 x1 and b = r2 · L2 x2, the weighted products with v
-//   5n, 6n y1 = r2 · a and y2 = r1 · b, scaled for the products of the commutator
-//   7n, 8n r1 and r2
+//   0       the sum so far, at first the signal and at last the answer
+//   n       v, the signal and then its images under Ω; while Ωv is formed, d, the weighted product of the first sample with b
+//   2n, 3n  a and b, the weighted products of the first and of the second sample with v
+//   4n      c, the weighted product of the second sample with a
+//   5n      r · v, the scaled signal of a weighted product
+//   6n, 7n  r1 and r2
 ghost use mathlib.Core.Path.{_≡_};
 ghost use mathlib.Core.List.{map};
 ghost use Prim.Native.Nat.{_+_, _*_, _≤_};
 ghost use lib.ListN.{length};
 ghost use lib.Ieee.{binary64};
 ghost use Rattle.rounding.specs.StepLength.{minusHalf};
-ghost use Rattle.arithmetic.specs.Arithmetic.{ieee};
-ghost use Rattle.arithmetic.specs.Product.{plusScaled};
-ghost use Rattle.scratch.specs.Parts.{part, put, zeros};
+ghost use Rattle.arithmetic.specs.Arithmetic.{ieee, multiplied};
+ghost use Rattle.scratch.specs.Parts.{part, put, Apart, zeros};
 ghost use Rattle.square_root.specs.SquareRoot.{squareRoot};
+ghost use Rattle.graph.specs.Pattern.{ValuedPattern};
 ghost use Rattle.graph.specs.RowProduct.{rowProduct64};
 ghost use Rattle.magnus.specs.Operators.{weighted};
 ghost use Rattle.magnus.specs.Coefficients.{reciprocalFactorial};
-ghost use Rattle.magnus_graph.specs.Omega4.{ValuedPattern, TermAdded, TermsAdded, expOmega4};
-ghost use Rattle.varcoef_magnus_graph.specs.WeightedOmega4.{multiplied, omega4Sum, weightedOmega4};
+ghost use Rattle.magnus_graph_helpers.specs.Terms.{TermAdded, TermsAdded};
+ghost use Rattle.magnus_graph.specs.Omega4.{expOmega4};
+ghost use Rattle.varcoef_magnus_graph.specs.WeightedOmega4.{weightedOmega4, withProduct};
 use graph::kernel::row_sum;
+use magnus_graph_helpers::kernel::omega_sum;
+use magnus_graph_helpers::kernel::reciprocal_factorial;
+use scratch::kernel::add_scaled;
 use scratch::kernel::clear;
+use scratch::kernel::copy_within;
 use scratch::kernel::load;
+use scratch::kernel::multiply;
+use scratch::kernel::store;
 use square_root::kernel::sqrt_into_slice;
 
 // The literal for √3/12 of the weighted steps; its bits are those of sqrt3Over12 in specs/WeightedOmega4.antt.
@@ -39,31 +47,57 @@ pub fn load_roots(weights: &[f64], work: &mut [f64], at: usize)
     sqrt_into_slice(weights, &mut work[at..end]);
 }
 
-// The scaled signals: x1 becomes r1 · v and x2 becomes r2 · v, at each place.
-pub fn scaled_signals(work: &mut [f64], n: usize)
-    requires { ⌜ 9 * n ≤ length (now work) ⌝ }
-    ensures { λ _. let A = ieee binary64 in
-        let w = now (work .entry) in
-        let v = part 0 n w in
-        let r1 = part (7 * n) n w in
-        let r2 = part (8 * n) n w in
-        ⌜ now (work .exit) ≡ put (2 * n) (multiplied A n r2 v) (put n (multiplied A n r1 v) w) ⌝ }
+// The vector at `target` becomes the product with the one at `source`, times the roots at `root`.
+pub fn rooted_product_in(
+    row_ptr: &[usize],
+    col_idx: &[u32],
+    vals: &[f64],
+    work: &mut [f64],
+    n: usize,
+    root: usize,
+    source: usize,
+    target: usize,
+)
+    requires { ⌜ ValuedPattern n (now «row_ptr») (now «col_idx») (now vals) ⌝ }
+    requires { ⌜ (root + n ≤ length (now work)) × (source + n ≤ length (now work)) × (target + n ≤ length (now work)) ⌝ }
+    requires { ⌜ Apart n root target × Apart n source target ⌝ }
+    ensures { λ _. let w = now (work .entry) in
+        let L = rowProduct64 n (now («row_ptr» .entry)) (now («col_idx» .entry)) (now (vals .entry)) in
+        ⌜ now (work .exit) ≡ put target (multiplied (ieee binary64) n (part root n w) (L (part source n w))) w ⌝ }
 {
-    let x2 = 2 * n;
-    let r1 = 7 * n;
-    let r2 = 8 * n;
+    let source_end = source + n;
     for i in 0..n {
-        let x = work[i];
-        let x1_i = work[r1 + i] * x;
-        let x2_i = work[r2 + i] * x;
-        work[n + i] = x1_i;
-        work[x2 + i] = x2_i;
+        let acc = row_sum(row_ptr, col_idx, vals, &work[source..source_end], i);
+        work[target + i] = work[root + i] * acc;
     }
 }
 
-// One walk forms the weighted products a = r1 · L1 x1 and b = r2 · L2 x2 and the scaled vectors y1 = r2 · a and
-// y2 = r1 · b.
-pub fn weighted_products(
+// The weighted product (01, part 5; `apply_la_on_slice` of the Rust) with the vector at `source`, to `target`; both are
+// among the first five vectors. The roots are those at `root`.
+fn weighted_product_in(
+    row_ptr: &[usize],
+    col_idx: &[u32],
+    vals: &[f64],
+    work: &mut [f64],
+    n: usize,
+    root: usize,
+    source: usize,
+    target: usize,
+)
+    requires { ⌜ ValuedPattern n (now «row_ptr») (now «col_idx») (now vals) ⌝ }
+    requires { ⌜ (6 * n ≤ root) × (root + n ≤ length (now work)) ⌝ }
+    requires { ⌜ (source + n ≤ 5 * n) × (target + n ≤ 5 * n) ⌝ }
+    ensures { λ _. let L = rowProduct64 n (now («row_ptr» .entry)) (now («col_idx» .entry)) (now (vals .entry)) in
+        ⌜ now (work .exit) ≡ withProduct (ieee binary64) n L root source target (now (work .entry)) ⌝ }
+{
+    let scaled = 5 * n;
+    multiply(work, n, root, source, scaled);
+    rooted_product_in(row_ptr, col_idx, vals, work, n, root, scaled, target);
+}
+
+// The weighted product of the first sample with the vector at `source1`, to `target1`, and then that of the second sample
+// with the vector at `source2`, to `target2`.
+fn two_weighted_products(
     row_ptr1: &[usize],
     col_idx1: &[u32],
     vals1: &[f64],
@@ -72,96 +106,29 @@ pub fn weighted_products(
     vals2: &[f64],
     work: &mut [f64],
     n: usize,
+    source1: usize,
+    target1: usize,
+    source2: usize,
+    target2: usize,
 )
     requires { ⌜ ValuedPattern n (now «row_ptr1») (now «col_idx1») (now vals1) ⌝ }
     requires { ⌜ ValuedPattern n (now «row_ptr2») (now «col_idx2») (now vals2) ⌝ }
-    requires { ⌜ 9 * n ≤ length (now work) ⌝ }
+    requires { ⌜ 8 * n ≤ length (now work) ⌝ }
+    requires { ⌜ (source1 + n ≤ 5 * n) × (target1 + n ≤ 5 * n) × (source2 + n ≤ 5 * n) × (target2 + n ≤ 5 * n) ⌝ }
     ensures { λ _. let A = ieee binary64 in
-        let w = now (work .entry) in
-        let r1 = part (7 * n) n w in
-        let r2 = part (8 * n) n w in
         let L1 = rowProduct64 n (now («row_ptr1» .entry)) (now («col_idx1» .entry)) (now (vals1 .entry)) in
         let L2 = rowProduct64 n (now («row_ptr2» .entry)) (now («col_idx2» .entry)) (now (vals2 .entry)) in
-        let a = multiplied A n r1 (L1 (part n n w)) in
-        let b = multiplied A n r2 (L2 (part (2 * n) n w)) in
-        ⌜ now (work .exit)
-        ≡ put (6 * n) (multiplied A n r1 b) (put (5 * n) (multiplied A n r2 a) (put (4 * n) b (put (3 * n) a w))) ⌝ }
+        let w1 = withProduct A n L1 (6 * n) source1 target1 (now (work .entry)) in
+        ⌜ now (work .exit) ≡ withProduct A n L2 (7 * n) source2 target2 w1 ⌝ }
 {
-    let x1_end = n + n;
-    let x2 = 2 * n;
-    let x2_end = x2 + n;
-    let a = 3 * n;
-    let b = 4 * n;
-    let y1 = 5 * n;
-    let y2 = 6 * n;
-    let r1 = 7 * n;
-    let r2 = 8 * n;
-    for i in 0..n {
-        let p = row_sum(row_ptr1, col_idx1, vals1, &work[n..x1_end], i);
-        let q = row_sum(row_ptr2, col_idx2, vals2, &work[x2..x2_end], i);
-        let root1 = work[r1 + i];
-        let root2 = work[r2 + i];
-        let a_i = root1 * p;
-        let b_i = root2 * q;
-        work[a + i] = a_i;
-        work[b + i] = b_i;
-        work[y1 + i] = root2 * a_i;
-        work[y2 + i] = root1 * b_i;
-    }
+    let r1 = 6 * n;
+    let r2 = 7 * n;
+    weighted_product_in(row_ptr1, col_idx1, vals1, work, n, r1, source1, target1);
+    weighted_product_in(row_ptr2, col_idx2, vals2, work, n, r2, source2, target2);
 }
 
-// From a, b, y1 and y2 one walk forms Ωv = scale · (a + b) + comm_scale · (r2 · L2 y1 - r1 · L1 y2), writes it over v and
-// adds coefficient · Ωv to out.
-pub fn omega_term_la(
-    row_ptr1: &[usize],
-    col_idx1: &[u32],
-    vals1: &[f64],
-    row_ptr2: &[usize],
-    col_idx2: &[u32],
-    vals2: &[f64],
-    work: &mut [f64],
-    n: usize,
-    scale: f64,
-    comm_scale: f64,
-    coefficient: f64,
-    out: &mut [f64],
-)
-    requires { ⌜ ValuedPattern n (now «row_ptr1») (now «col_idx1») (now vals1) ⌝ }
-    requires { ⌜ ValuedPattern n (now «row_ptr2») (now «col_idx2») (now vals2) ⌝ }
-    requires { ⌜ (length (now out) ≡ n) × (9 * n ≤ length (now work)) ⌝ }
-    ensures { λ _. let A = ieee binary64 in
-        let w = now (work .entry) in
-        let r1 = part (7 * n) n w in
-        let r2 = part (8 * n) n w in
-        let L1 = rowProduct64 n (now («row_ptr1» .entry)) (now («col_idx1» .entry)) (now (vals1 .entry)) in
-        let L2 = rowProduct64 n (now («row_ptr2» .entry)) (now («col_idx2» .entry)) (now (vals2 .entry)) in
-        let c = multiplied A n r2 (L2 (part (5 * n) n w)) in
-        let d = multiplied A n r1 (L1 (part (6 * n) n w)) in
-        let Ωv = omega4Sum A n scale «comm_scale» (part (3 * n) n w) (part (4 * n) n w) c d in
-        ⌜ (now (work .exit) ≡ put 0 Ωv w)
-        × (now (out .exit) ≡ plusScaled A n (now (out .entry)) coefficient Ωv) ⌝ }
-{
-    let a = 3 * n;
-    let b = 4 * n;
-    let y1 = 5 * n;
-    let y1_end = y1 + n;
-    let y2 = 6 * n;
-    let y2_end = y2 + n;
-    let r1 = 7 * n;
-    let r2 = 8 * n;
-    for i in 0..n {
-        let p = row_sum(row_ptr2, col_idx2, vals2, &work[y1..y1_end], i);
-        let q = row_sum(row_ptr1, col_idx1, vals1, &work[y2..y2_end], i);
-        let c = work[r2 + i] * p;
-        let d = work[r1 + i] * q;
-        let w = scale * (work[a + i] + work[b + i]) + comm_scale * (c - d);
-        work[i] = w;
-        out[i] = out[i] + coefficient * w;
-    }
-}
-
-// One term of the Taylor sum (`apply_omega4_la` and `axpy_into_slice` of the Rust): v becomes Ωv, and coefficient · Ωv
-// is added to out. The vectors up to y2 are overwritten, the roots are kept.
+// One term of the Taylor sum (`apply_omega4_la` and `axpy_into_slice` of the Rust): v becomes Ωv, and coefficient · Ωv is
+// added to the sum. The roots are kept.
 fn taylor_term_la(
     row_ptr1: &[usize],
     col_idx1: &[u32],
@@ -173,23 +140,24 @@ fn taylor_term_la(
     sign: f64,
     s: f64,
     coefficient: f64,
-    out: &mut [f64],
     work: &mut [f64],
     n: usize,
 )
     requires { ⌜ ValuedPattern n (now «row_ptr1») (now «col_idx1») (now vals1) ⌝ }
     requires { ⌜ ValuedPattern n (now «row_ptr2») (now «col_idx2») (now vals2) ⌝ }
-    requires { ⌜ (length (now out) ≡ n) × (9 * n ≤ length (now work)) ⌝ }
+    requires { ⌜ 8 * n ≤ length (now work) ⌝ }
     ensures { λ _. let w = now (work .entry) in
         let L1 = rowProduct64 n (now («row_ptr1» .entry)) (now («col_idx1» .entry)) (now (vals1 .entry)) in
         let L2 = rowProduct64 n (now («row_ptr2» .entry)) (now («col_idx2» .entry)) (now (vals2 .entry)) in
-        let Ω = weightedOmega4 (ieee binary64) n minusHalf s sign tau L1 L2 (part (7 * n) n w) (part (8 * n) n w) in
-        ⌜ TermAdded (ieee binary64) n (7 * n) Ω coefficient (now (out .entry)) w (now (out .exit)) (now (work .exit)) ⌝ }
+        let Ω = weightedOmega4 (ieee binary64) n minusHalf s sign tau L1 L2 (part (6 * n) n w) (part (7 * n) n w) in
+        ⌜ TermAdded (ieee binary64) n (6 * n) Ω coefficient w (now (work .exit)) ⌝ }
 {
+    let a = 2 * n;
+    let b = 3 * n;
+    let c = 4 * n;
     let scale = -0.5 * tau;
     let comm_scale = sign * s * tau * tau;
-    scaled_signals(work, n);
-    weighted_products(
+    two_weighted_products(
         row_ptr1,
         col_idx1,
         vals1,
@@ -198,8 +166,12 @@ fn taylor_term_la(
         vals2,
         work,
         n,
+        n,
+        a,
+        n,
+        b,
     );
-    omega_term_la(
+    two_weighted_products(
         row_ptr1,
         col_idx1,
         vals1,
@@ -208,14 +180,16 @@ fn taylor_term_la(
         vals2,
         work,
         n,
-        scale,
-        comm_scale,
-        coefficient,
-        out,
+        b,
+        n,
+        a,
+        c,
     );
+    omega_sum(work, n, a, b, c, n, scale, comm_scale);
+    add_scaled(work, n, coefficient, n, 0);
 }
 
-// The four terms of the Taylor sum. out and the vector at 0 are the signal at first.
+// The Taylor sum of four terms: the vector at 0, the signal, becomes the step's answer. The roots are kept.
 fn taylor4_la(
     row_ptr1: &[usize],
     col_idx1: &[u32],
@@ -226,81 +200,36 @@ fn taylor4_la(
     tau: f64,
     sign: f64,
     s: f64,
-    out: &mut [f64],
     work: &mut [f64],
     n: usize,
 )
     requires { ⌜ ValuedPattern n (now «row_ptr1») (now «col_idx1») (now vals1) ⌝ }
     requires { ⌜ ValuedPattern n (now «row_ptr2») (now «col_idx2») (now vals2) ⌝ }
-    requires { ⌜ (length (now out) ≡ n) × (9 * n ≤ length (now work)) ⌝ }
-    requires { ⌜ part 0 n (now work) ≡ now out ⌝ }
+    requires { ⌜ 8 * n ≤ length (now work) ⌝ }
     ensures { λ _. let w = now (work .entry) in
         let L1 = rowProduct64 n (now («row_ptr1» .entry)) (now («col_idx1» .entry)) (now (vals1 .entry)) in
         let L2 = rowProduct64 n (now («row_ptr2» .entry)) (now («col_idx2» .entry)) (now (vals2 .entry)) in
-        let Ω = weightedOmega4 (ieee binary64) n minusHalf s sign tau L1 L2 (part (7 * n) n w) (part (8 * n) n w) in
-        ⌜ TermsAdded (ieee binary64) n (7 * n) (reciprocalFactorial binary64) 4 Ω
-        (now (out .entry)) w (now (out .exit)) (now (work .exit)) ⌝ }
+        let Ω = weightedOmega4 (ieee binary64) n minusHalf s sign tau L1 L2 (part (6 * n) n w) (part (7 * n) n w) in
+        ⌜ TermsAdded (ieee binary64) n (6 * n) (reciprocalFactorial binary64) 4 Ω w (now (work .exit)) ⌝ }
 {
-    taylor_term_la(
-        row_ptr1,
-        col_idx1,
-        vals1,
-        row_ptr2,
-        col_idx2,
-        vals2,
-        tau,
-        sign,
-        s,
-        1.0 / 1.0,
-        out,
-        work,
-        n,
-    );
-    taylor_term_la(
-        row_ptr1,
-        col_idx1,
-        vals1,
-        row_ptr2,
-        col_idx2,
-        vals2,
-        tau,
-        sign,
-        s,
-        1.0 / 2.0,
-        out,
-        work,
-        n,
-    );
-    taylor_term_la(
-        row_ptr1,
-        col_idx1,
-        vals1,
-        row_ptr2,
-        col_idx2,
-        vals2,
-        tau,
-        sign,
-        s,
-        1.0 / 6.0,
-        out,
-        work,
-        n,
-    );
-    taylor_term_la(
-        row_ptr1,
-        col_idx1,
-        vals1,
-        row_ptr2,
-        col_idx2,
-        vals2,
-        tau,
-        sign,
-        s,
-        1.0 / 24.0,
-        out,
-        work,
-        n,
-    );
+    copy_within(work, n, 0, n);
+    for k in 0..4 {
+        let coefficient = reciprocal_factorial(k + 1);
+        taylor_term_la(
+            row_ptr1,
+            col_idx1,
+            vals1,
+            row_ptr2,
+            col_idx2,
+            vals2,
+            tau,
+            sign,
+            s,
+            coefficient,
+            work,
+            n,
+        );
+    }
 }
 
 // One weighted step of order 4 (01, part 7): dst becomes the step's answer for the signal src, and the first 9n elements
@@ -335,10 +264,9 @@ pub fn step4_la(
         × (now (work .exit) ≡ put 0 (zeros (9 * n)) (now (work .entry))) ⌝ }
 {
     let n = src.len();
-    load(dst, 0, src);
     load(work, 0, src);
-    load_roots(weights1, work, 7 * n);
-    load_roots(weights2, work, 8 * n);
+    load_roots(weights1, work, 6 * n);
+    load_roots(weights2, work, 7 * n);
     taylor4_la(
         row_ptr1,
         col_idx1,
@@ -349,9 +277,9 @@ pub fn step4_la(
         tau,
         sign,
         s,
-        dst,
         work,
         n,
     );
+    store(work, 0, dst);
     clear(work, 9 * n);
 }

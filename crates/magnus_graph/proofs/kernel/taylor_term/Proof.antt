@@ -1,52 +1,99 @@
--- `magnus_graph::kernel::taylor_term` meets its contract: the two walks write L1 v and L2 v beside v, then Ωv over v,
--- and add the coefficient times Ωv to out. The factors are those of the formula; the code's -0.5 is its minusHalf.
--- Assumes nothing.
+-- `magnus_graph::kernel::taylor_term` meets its contract: the four products are placed as the formula asks, d over v, which
+-- is no longer needed; then Ωv is formed of them over d, and the coefficient times Ωv is added to the sum. The factors are
+-- those of the formula; the code's -0.5 is its minusHalf. Assumes nothing.
+use mathlib.Core.Path.{refl}
+use Prim.Native.Nat.{_*_}
 use native.Mathlib.Omega.{arith}
 use lib.Ieee.{binary64, ofBits, neg}
 use Rattle.rounding.specs.StepLength.{minusHalf}
 use Rattle.arithmetic.specs.Arithmetic.{ieee}
 use Rattle.arithmetic.proofs.Tabulate.{length-tabulate}
 use Rattle.graph.specs.RowProduct.{rowProduct64}
-use Rattle.magnus_graph.proofs.Taylor.{term-added}
+use Rattle.magnus_graph_helpers.proofs.Terms.{product-placed, room-left, term4-added}
+use borrow.Author.Needs.{needs}
 use Rattle.magnus_graph.proofs.kernel.taylor_term.Statement.{statement}
 use Rattle.magnus_graph.proofs.kernel.taylor_term.Tie as tie
 
+mul-a : tie.Need-mul-a
+mul-a c = search needs
+
 mul-b : tie.Need-mul-b
-mul-b c = omega arith
+mul-b c = search needs
+
+mul-c : tie.Need-mul-c
+mul-c c = search needs
 
 two-products-requires : tie.Need-two-products-requires
 two-products-requires c κs =
-    let pre = c .before .before .before .before .before .before .before .before .before .pre in
+    let start = c .before .before .before .before .before .before .before .before in
+    let pre = start .pre in
     (pre .0, (pre .1 .0, (omega arith, omega arith)))
 
-omega-term-requires : tie.Need-omega-term-requires
-omega-term-requires c κs =
-    let products = c .before .before .before .before in
-    let pre = products .before .before .before .before .before .before .before .before .before .before .pre in
+two-products-requires-2 : tie.Need-two-products-requires-2
+two-products-requires-2 c κs =
+    let start = c .before .before .before .before .before .before .before .before .before .before .before .before in
+    let pre = start .pre in
     (pre .0, (pre .1 .0, (omega arith, omega arith)))
+
+omega-sum-requires : tie.Need-omega-sum-requires
+omega-sum-requires c κs =
+    let second = c .before .before .before in
+    let first = second .before .before .before .before in
+    let start = first .before .before .before .before .before .before .before .before .before in
+    omega (arith, start .pre .1 .1, first .two-products .kept .1 .1 .1 .1 .1 .1 .0, second .two-products2 .kept .1 .1 .1 .1 .1 .1 .0)
+
+add-scaled-requires : tie.Need-add-scaled-requires
+add-scaled-requires c κs =
+    let formed = c .before .before .before in
+    let second = formed .before .before .before .before in
+    let first = second .before .before .before .before in
+    let start = first .before .before .before .before .before .before .before .before .before in
+    omega (
+      arith,
+      start .pre .1 .1,
+      first .two-products .kept .1 .1 .1 .1 .1 .1 .0,
+      second .two-products2 .kept .1 .1 .1 .1 .1 .1 .0,
+      formed .omega-sum .kept .0,
+    )
 
 same-length : tie.Need-same-length
-same-length c = omega arith
-
-same-length-2 : tie.Need-same-length-2
-same-length-2 c = omega arith
+same-length c = search needs
 
 returns : tie.Need-returns
 unfolding ofBits neg
 returns c =
-    let term = c .before .before .before .before in
-    let products = term .before .before .before .before .before in
-    let start = products .before .before .before .before .before .before .before .before .before .before in
+    let added = c .before .before in
+    let formed = added .before .before .before .before in
+    let second = formed .before .before .before .before in
+    let first = second .before .before .before .before in
+    let start = first .before .before .before .before .before .before .before .before .before in
     let args = start .args in
     let room = start .pre .1 .1 in
+    let A = ieee binary64 in
     let n = args .n in
     let L1 = rowProduct64 n (args .row-ptr1 .now) (args .col-idx1 .now) (args .vals1 .now) in
     let L2 = rowProduct64 n (args .row-ptr2 .now) (args .col-idx2 .now) (args .vals2 .now) in
-    term-added (ieee binary64) n minusHalf (args .s) (args .sign) (args .tau) (args .coefficient) L1 L2
-    (args .out .now) (args .work .now) _ _ _ (room .0) (room .1) (length-tabulate _ n) (length-tabulate _ n)
-    (products .two-products .ensures) (term .omega-term .ensures)
+    let placed = product-placed A n (5 * n) in
+    let a = placed n (2 * n) L1 (args .work .now) _ (λ x. length-tabulate _ n) room (omega arith) refl in
+    let room1 = room-left A n a (5 * n) room in
+    let b = placed n (3 * n) L2 _ _ (λ x. length-tabulate _ n) room1 (omega arith) (first .two-products .ensures) in
+    let room2 = room-left A n b (5 * n) room1 in
+    let d = placed (3 * n) n L1 _ _ (λ x. length-tabulate _ n) room2 (omega arith) refl in
+    let room3 = room-left A n d (5 * n) room2 in
+    let c = placed (2 * n) (4 * n) L2 _ _ (λ x. length-tabulate _ n) room3 (omega arith) (second .two-products2 .ensures) in
+    term4-added A n (5 * n) minusHalf (args .s) (args .sign) (args .tau) (args .coefficient) L1 L2
+    (args .work .now) _ _ _ _ _ _ room (omega arith) a b d c (formed .omega-sum .ensures) (added .add-scaled .ensures)
 
 pub taylor-term-spec : {M : Type 1} → statement M
 taylor-term-spec =
     tie.close
-    (tie.spec mul-b two-products-requires omega-term-requires same-length same-length-2 returns)
+    (tie.spec
+    mul-a
+    mul-b
+    mul-c
+    two-products-requires
+    two-products-requires-2
+    omega-sum-requires
+    add-scaled-requires
+    same-length
+    returns)

@@ -2,7 +2,7 @@
 -- back as the vector of roots, and the rest is as it was. Assumes nothing.
 use lib.Ieee.{binary64}
 use Rattle.square_root.specs.SquareRoot.{squareRoot}
-use Rattle.varcoef_magnus_graph.proofs.Vectors.{image-placed}
+use Rattle.scratch.proofs.Parts.{image-placed}
 use Rattle.varcoef_magnus_graph.proofs.kernel.load_roots.Statement.{statement}
 use Rattle.varcoef_magnus_graph.proofs.kernel.load_roots.Tie as tie
 use borrow.Author.Needs.{needs}
