@@ -11,7 +11,8 @@ use Rattle.arithmetic.specs.Arithmetic.{Arithmetic, at}
 use Rattle.arithmetic.specs.Product.{sumTo, entries, rowSum, rowProduct}
 use Rattle.magnus.specs.Operators.{Operator, omega4}
 use Rattle.magnus.specs.Ring.{Ring, Symmetric, dot}
-use Rattle.magnus.specs.Published.{operators, commutator, order4, order4Adjoint, AsPublished}
+use Rattle.magnus.specs.OperatorArithmetic.{operators}
+use Rattle.magnus.specs.Published.{commutator, order4, order4Adjoint, AsPublished}
 use Rattle.magnus.proofs.Linear.{ColumnsInside, row-products-as-published}
 
 abbrev pub integers : Arithmetic ℤ

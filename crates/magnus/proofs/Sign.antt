@@ -9,7 +9,8 @@ use Rattle.arithmetic.proofs.Tabulate.{tabulate-same}
 use Rattle.arithmetic.proofs.Product.{at-tabulate}
 use Rattle.magnus.specs.Operators.{Operator, omega4}
 use Rattle.magnus.specs.Ring.{Ring, Linear}
-use Rattle.magnus.specs.Published.{operators, commutator, order4, order4Adjoint, AsPublished}
+use Rattle.magnus.specs.OperatorArithmetic.{operators}
+use Rattle.magnus.specs.Published.{commutator, order4, order4Adjoint, AsPublished}
 use Rattle.magnus.proofs.Vectors.{neg-neg, neg-add, mul-neg, neg-mul, linear-neg}
 
 -- the negatives of two linear operators have the commutator of the two: [-P1, -P2] = [P1, P2]

@@ -5,20 +5,9 @@
 use mathlib.Core.Path.{_≡_}
 use mathlib.Core.List.{List}
 use Prim.Native.Nat.{ℕ}
-use Rattle.arithmetic.specs.Arithmetic.{Arithmetic, vectors, scaled}
+use Rattle.arithmetic.specs.Arithmetic.{Arithmetic}
 use Rattle.magnus.specs.Operators.{Operator, omega4}
-
--- operators on vectors of n places: (X + Y) v is X v + Y v, the difference and the negative likewise; the product XY is
--- the composition, (XY) v = X (Y v)
-abbrev pub operators : {K : Type 0} (A : Arithmetic K) (n : ℕ) → Arithmetic (Operator A n)
-operators A n = record {
-  zero = λ v. vectors A n .zero;
-  past = λ v. vectors A n .past;
-  _+_ = λ X Y v. vectors A n ._+_ (X v) (Y v);
-  _-_ = λ X Y v. vectors A n ._-_ (X v) (Y v);
-  _*_ = λ X Y v. X (Y v);
-  -_ = λ X v. vectors A n .-_ (X v);
-}
+use Rattle.magnus.specs.OperatorArithmetic.{operators, onVectors}
 
 module _ {K : Type 0} (A : Arithmetic K) (n : ℕ) where
   open Arithmetic A using (_*_)
@@ -29,7 +18,7 @@ module _ {K : Type 0} (A : Arithmetic K) (n : ℕ) where
   infixl 70 _*_ _∘_
   -- s times an operator
   abbrev _·_ : K → Operator A n → Operator A n
-  _·_ s X v = scaled A n s (X v)
+  _·_ = onVectors A n .scale
 
   -- [X, Y] = XY - YX
   unfoldable pub commutator : Operator A n → Operator A n → Operator A n
