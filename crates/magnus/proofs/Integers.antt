@@ -29,7 +29,7 @@ module _ (P : ℤ → Type 0) (none : P (pos 0)) (next : (k : ℕ) → P (pos k)
   integer-induction negative (pos k) = natural-induction k
   integer-induction negative (negsuc k) = negative (pos (suc k)) (natural-induction (suc k))
 
-neg-mul : (x y : ℤ) → negℤ x *ℤ y ≡ negℤ (x *ℤ y)
+pub neg-mul : (x y : ℤ) → negℤ x *ℤ y ≡ negℤ (x *ℤ y)
 neg-mul (pos zero) y = zero-*ℤ y ∙ sym (ap negℤ (zero-*ℤ y))
 neg-mul (pos (suc a)) (pos b) = refl
 neg-mul (pos (suc a)) (negsuc b) = sym (negℤ-negℤ _)
@@ -85,10 +85,10 @@ minus-one-mul : (x : ℤ) → negsuc 0 *ℤ x ≡ negℤ x
 minus-one-mul x = neg-mul (pos 1) x ∙ ap negℤ (one-mul x)
 
 -- ---- a point: L1 = diag(1, 0), L2 swaps two nodes (01, "Points to meet")
-abbrev L1 : Operator integers 2
+abbrev pub L1 : Operator integers 2
 L1 = rowProduct integers 2 (0 ∷ 1 ∷ 2 ∷ []) (0 ∷ 1 ∷ []) (pos 1 ∷ pos 0 ∷ [])
 
-abbrev L2 : Operator integers 2
+abbrev pub L2 : Operator integers 2
 L2 = rowProduct integers 2 (0 ∷ 1 ∷ 2 ∷ []) (1 ∷ 0 ∷ []) (pos 1 ∷ pos 1 ∷ [])
 
 open Arithmetic (operators integers 2) using (-_ as minus)
@@ -136,7 +136,7 @@ unfolding omega4 order4 order4Adjoint commutator tabulate rowSum entries sumTo
 second-point = ((refl, refl), (refl, refl, refl))
 
 -- ---- the theorems apply to L1 and L2: the products are linear, 1 and -1 are the factors
-two-columns : (a b : ℕ) → a < 2 → b < 2 → ColumnsInside 2 (a ∷ b ∷ [])
+pub two-columns : (a b : ℕ) → a < 2 → b < 2 → ColumnsInside 2 (a ∷ b ∷ [])
 two-columns a b first second zero l = first
 two-columns a b first second (suc zero) l = second
 two-columns a b first second (suc (suc k)) l = absurd (omega arith)

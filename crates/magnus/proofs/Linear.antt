@@ -1,5 +1,6 @@
 -- Over exact numbers the row product and the weighted product are linear, so what Sign.antt shows of linear products
--- holds of those that the code computes: its formulas of order 4, unweighted and weighted, are the published one.
+-- holds of those that the code computes: its formulas of order 4, unweighted and weighted, and of order 6 are the
+-- published ones.
 -- Assumes nothing.
 use mathlib.Core.Path.{_≡_, sym, ap, ap₂, _∙_}
 use mathlib.Core.List.{List}
@@ -13,10 +14,12 @@ use Rattle.arithmetic.specs.Product.{entries, rowSum, rowProduct}
 use Rattle.arithmetic.proofs.Tabulate.{tabulate-same}
 use Rattle.arithmetic.proofs.Product.{at-tabulate}
 use Rattle.magnus.specs.Operators.{Operator, weighted}
+use Rattle.magnus.specs.Omega6.{Constants6}
 use Rattle.magnus.specs.Ring.{Ring, Linear}
-use Rattle.magnus.specs.Published.{AsPublished}
+use Rattle.magnus.specs.Published.{AsPublished, AsPublished6}
 use Rattle.magnus.proofs.Vectors.{mul-left-comm, sum-same, sum-add, sum-mul}
 use Rattle.magnus.proofs.Sign.{omega4-as-published}
+use Rattle.magnus.proofs.Sign6.{omega6-as-published}
 
 -- every listed column is one of the n nodes (01, row 4)
 abbrev pub ColumnsInside : ℕ → List ℕ → Type 0
@@ -108,3 +111,15 @@ module _ {K : Type 0} {A : Arithmetic K} (R : Ring A) (n : ℕ) where
         omega4-as-published R n half c τ _ _
         (weighted-linear root1 _ (row-product-linear starts1 cols1 vals1 inside1))
         (weighted-linear root2 _ (row-product-linear starts2 cols2 vals2 inside2))
+
+  -- 01, part 9: a third sample
+  pub row-products-as-published6 : (k : Constants6 K) (τ : K)
+      (starts1 cols1 : List ℕ) (vals1 : List K) (starts2 cols2 : List ℕ) (vals2 : List K)
+      (starts3 cols3 : List ℕ) (vals3 : List K)
+      → ColumnsInside n cols1
+      → ColumnsInside n cols3
+      → AsPublished6 A n k τ (rowProduct A n starts1 cols1 vals1) (rowProduct A n starts2 cols2 vals2)
+      (rowProduct A n starts3 cols3 vals3)
+  row-products-as-published6 k τ starts1 cols1 vals1 starts2 cols2 vals2 starts3 cols3 vals3 inside1 inside3 =
+      omega6-as-published R n k τ _ _ _
+      (row-product-linear starts1 cols1 vals1 inside1) (row-product-linear starts3 cols3 vals3 inside3)

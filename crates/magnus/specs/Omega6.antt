@@ -68,7 +68,7 @@ module _ {K O : Type 0} (S : OperatorArithmetic K O) (k : Constants6 K) (τ : K)
   twoB3PlusC1 = b3 ⊕ b3 ⊕ c1
 
   -- (2 B3 + C1) B1, which the Rust forms otherwise, as two_b3_b1v + c1_b1v: in two_b3_b1v the factor 2 is in τ + τ, and in
-  -- c1_b1v the subtrahend B2 B1 B1 (b2_b1_b1v) has the factors of B2 and of the outer B1 joined
+  -- c1_b1v the subtrahend B2 B1 B1 (b2_b1_b1v) has the factors of B2 and of the B1 beside it joined
   unfoldable pub twoB3PlusC1OfB1 : O
   twoB3PlusC1OfB1 =
       ((τ + τ) * tenOver3) · secondDifference ∘ b1
