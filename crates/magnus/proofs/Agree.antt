@@ -18,7 +18,7 @@ use Rattle.arithmetic.specs.SameList.{SameList}
 use Rattle.arithmetic.proofs.Tabulate.{length-tabulate, getD-tabulate}
 use Rattle.arithmetic.proofs.UpToZero.{same-list-refl, row-product-same-list, mul-same-list}
 use Rattle.magnus.specs.Operators.{weighted}
-use Rattle.magnus.specs.Agree.{agree, OfFormat, ProductsAgree}
+use Rattle.magnus.specs.Agree.{agree, SamplesAgree, OfFormat, ProductsAgree}
 
 -- ---- lists that agree
 
@@ -63,7 +63,7 @@ row-product-of-format f n starts cols vals x =
 -- ---- products that agree
 
 -- the products with two samples that agree
-pub row-products-agree : (f : Format) (n : ℕ) {starts1 cols1 starts2 cols2 : List ℕ} {vals1 vals2 : List Float}
+row-products-agree : (f : Format) (n : ℕ) {starts1 cols1 starts2 cols2 : List ℕ} {vals1 vals2 : List Float}
     → starts1 ≡ starts2
     → cols1 ≡ cols2
     → SameList vals1 vals2
@@ -75,6 +75,15 @@ row-products-agree f n {starts1} {cols1} {starts2} {cols2} {vals1} {vals2} p q r
       both = λ x. row-product-same-list f cols1 r x n starts1;
       ofFormat = row-product-of-format f n starts1 cols1 vals1;
     }
+
+pub samples-products-agree : (f : Format) (n : ℕ) {starts1 cols1 starts2 cols2 : List ℕ} {vals1 vals2 : List Float}
+    → SamplesAgree starts1 cols1 vals1 starts2 cols2 vals2
+    → OfFormat f vals1
+    → OfFormat f vals2
+    → ProductsAgree f (rowProduct (ieee f) n starts1 cols1 vals1) (rowProduct (ieee f) n starts2 cols2 vals2)
+samples-products-agree f n {vals1 = vals1} {vals2 = vals2} agreed format1 format2 =
+    row-products-agree f n (agreed .starts) (agreed .cols)
+    (agree-same f vals1 vals2 format1 format2 (agreed .vals))
 
 -- the weighted products with roots that agree
 pub weighted-products-agree : (f : Format) (n : ℕ) {root1 root2 : List Float} {P1 P2 : List Float → List Float}

@@ -1,4 +1,4 @@
--- The sign theorem: over any commutative ring the formula is the published one.
+-- The sign theorem: over any commutative ring the formulas are the published ones.
 pub mod Vectors
 pub mod Sign
 pub mod Sign6
@@ -10,5 +10,9 @@ pub mod Integers6
 pub mod Agree
 pub mod Formed
 pub mod FormedIsFinite
+pub mod FormedZeros
 pub mod PlainSum
+pub mod PlainSum6
 pub mod VanishingCommutator
+-- The constants of order 6.
+pub mod Constants6

@@ -26,7 +26,7 @@ use Rattle.magnus.specs.Operators.{omega4, power, taylor, plainTerm, pla
 use Rattle.magnus.specs.Agree.{SamplesAgree, OfFormat, ProductsAgree}
 use Rattle.magnus.specs.Formed.{FormedOperator, finiteVector, formedProduct, formedWeighted}
 use Rattle.magnus.specs.Formed.{formedOmega4, formedTerms, formedTaylor, formedStep4}
-use Rattle.magnus.proofs.Agree.{agree-same, row-products-agree, weighted-products-agree}
+use Rattle.magnus.proofs.Agree.{samples-products-agree, weighted-products-agree}
 use Rattle.magnus.proofs.Formed.{and-is, finite-tabulate, omega4-formed-finite, formed-by-result}
 
 -- ---- Ωv at one node
@@ -140,9 +140,7 @@ module _ (f : Format) (n : ℕ) where
         (format1 : OfFormat f vals1) (format2 : OfFormat f vals2)
         (c : ℕ → Float) (d : ℕ) {v v' : List Float} (r : SameList v v') where
       products : ProductsAgree f (rowProduct (ieee f) n starts1 cols1 vals1) (rowProduct (ieee f) n starts2 cols2 vals2)
-      products =
-          row-products-agree f n (agreed .starts) (agreed .cols)
-          (agree-same f vals1 vals2 format1 format2 (agreed .vals))
+      products = samples-products-agree f n agreed format1 format2
 
       -- the step, forward and adjoint (01, parts 6 and 8)
       pub samples-plain-sum :

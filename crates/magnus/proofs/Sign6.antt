@@ -1,7 +1,7 @@
 -- The signs of order 6. Over exact numbers, for linear products P1, P2 and P3, the formula that the code computes (01,
 -- part 9) is the published one with Ai = -Pi. B1, B2 and B3 are the published ones place by place; what the Rust forms
 -- for (2 B3 + C1) B1 is that operator, since P1 and P3 are linear; the rest is the same text. Assumes nothing.
-use mathlib.Core.Path.{_≡_, refl, sym, ap, ap₂, _∙_}
+use mathlib.Core.Path.{_≡_, sym, ap, ap₂, _∙_}
 use mathlib.Core.List.{List}
 use Prim.Native.Nat.{ℕ, zero as none, suc, _<_}
 use Rattle.arithmetic.specs.Arithmetic.{Arithmetic, at, vectors, scaled}

@@ -1,5 +1,6 @@
 -- Whether every number formed by a step of order 6 is finite (01, demand 3 and part 9): the formula of Omega6.antt, read
 -- over operators that tell of the result of each operation, at every place, whether it is finite. Assumes nothing.
+use mathlib.Core.Path.{_≡_, refl}
 use mathlib.Core.Bool.{Bool, true, _&&_}
 use mathlib.Core.List.{List}
 use Prim.Native.Nat.{ℕ}
@@ -8,7 +9,8 @@ use lib.Ieee.Scale.{finite}
 use Rattle.arithmetic.specs.Arithmetic.{Arithmetic, ieee}
 use Rattle.magnus.specs.Operators.{Operator}
 use Rattle.magnus.specs.OperatorArithmetic.{OperatorArithmetic, onVectors}
-use Rattle.magnus.specs.Omega6.{Constants6, omega6}
+use Rattle.magnus.specs.Omega6.{Constants6, b1, b2, secondDifference, b3, c1, twoB3PlusC1, twoB3PlusC1OfB1}
+use Rattle.magnus.specs.Omega6.{c2, lop, rop, omega6}
 use Rattle.magnus.specs.Formed.{FormedOperator, finiteVector, formedTaylor}
 
 module _ (f : Format) (n : ℕ) where
@@ -57,6 +59,12 @@ module _ (f : Format) (n : ℕ) where
     apply = omega6 (onVectors (ieee f) n) k τ (P1 .apply) (P2 .apply) (P3 .apply);
     formed = λ v. formedFactors6 f k τ && omega6 (formedOperators f n) k τ P1 P2 P3 .formed v;
   }
+
+  -- those operators compute Ω as it is computed without them
+  pub formed-omega6-apply : (k : Constants6 Float) (τ : Float) (P1 P2 P3 : FormedOperator)
+      → omega6 (formedOperators f n) k τ P1 P2 P3 .apply ≡ formedOmega6 k τ P1 P2 P3 .apply
+  unfolding omega6 lop rop c2 twoB3PlusC1OfB1 twoB3PlusC1 c1 b3 secondDifference b2 b1
+  formed-omega6-apply k τ P1 P2 P3 = refl
 
   -- The step with the products P1, P2 and P3. Its degree d is 6 and its coefficients c k are 1 / k! (Coefficients.antt).
   abbrev pub formedStep6 : (ℕ → Float) → ℕ → Constants6 Float → Float → (P1 P2 P3 : FormedOperator) → FormedOperator
