@@ -81,7 +81,8 @@ module _ (f : Format) (n : ℕ) where
   pub omega4-formed-finite : (minusHalf s sign τ : Float) (P1 P2 : FormedOperator) (v : List Float)
       → T (formedOmega4 f n minusHalf s sign τ P1 P2 .formed v)
       → T (finiteVector n (omega4 (ieee f) n minusHalf s sign τ (P1 .apply) (P2 .apply) v))
-  omega4-formed-finite minusHalf s sign τ P1 P2 v t = (simp and-is at t) .1
+  unfolding omega4
+  omega4-formed-finite minusHalf s sign τ P1 P2 v t = (simp and-is at t) .1 .1
 
   -- of a Taylor sum that has a term
   pub taylor-formed-finite : (c : ℕ → Float) (d : ℕ) (W : FormedOperator) (v : List Float)

@@ -83,14 +83,20 @@ module _ (f : Format) (n : ℕ) (node : 0 < n) (P1 P2 : FormedOperator)
       let finite-τ = finite-of-mul f (sign * s * τ) τ finite-τ² .0 in
       let finite-s = finite-of-mul f (sign * s) τ finite-τ .0 in
       simp and-is (
+        (((finite-half, finite-s), finite-τ), finite-τ²),
         (
           (
-            (((shown1 v (first .0), shown2 v (first .1)), shown2 a (second .0)), shown1 b (second .1)),
-            ((finite-half, sum), terms .0),
+            (((shown1 v (first .0), shown2 v (first .1)), sum), terms .0),
+            (
+              (
+                ((shown1 v (first .0), shown2 a (second .0)), (shown2 v (first .1), shown1 b (second .1))),
+                difference,
+              ),
+              terms .1,
+            ),
           ),
-          ((((finite-s, finite-τ), finite-τ²), difference), terms .1),
+          t,
         ),
-        t,
       )
 
   -- the step of degree 1 or more

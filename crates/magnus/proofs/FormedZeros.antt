@@ -22,8 +22,7 @@ use Rattle.arithmetic.proofs.Tabulate.{length-tabulate, getD-tabulate}
 use Rattle.arithmetic.proofs.Product.{at-tabulate}
 use Rattle.arithmetic.proofs.UpToZero.{same-list-refl, tabulate-same-list}
 use Rattle.magnus.specs.Agree.{ProductsAgree}
-use Rattle.magnus.specs.Formed.{FormedOperator, formedSum, formedRow, formedProduct}
-use Rattle.magnus.specs.FormedOmega6.{formedOperators}
+use Rattle.magnus.specs.Formed.{FormedOperator, formedOperators, formedSum, formedRow, formedProduct}
 use Rattle.magnus.proofs.Formed.{and-is, every-place-is, finite-tabulate}
 
 module _ (f : Format) (n : ℕ) where

@@ -19,8 +19,8 @@ use Rattle.magnus.specs.OperatorArithmetic.{OperatorArithmetic}
 use Rattle.magnus.specs.Omega6.{Constants6, b1, b2, secondDifference, b3, c1, twoB3PlusC1, twoB3PlusC1OfB1}
 use Rattle.magnus.specs.Omega6.{c2, lop, rop, omega6}
 use Rattle.magnus.specs.Agree.{SamplesAgree, OfFormat, ProductsAgree}
-use Rattle.magnus.specs.Formed.{FormedOperator, formedProduct}
-use Rattle.magnus.specs.FormedOmega6.{formedOperators, formedFactors6, formedOmega6, formedStep6}
+use Rattle.magnus.specs.Formed.{FormedOperator, formedOperators, formedProduct}
+use Rattle.magnus.specs.FormedOmega6.{formedFactors6, formedOmega6, formedStep6}
 use Rattle.magnus.specs.FormedOmega6.{formed-omega6-apply}
 use Rattle.magnus.proofs.Agree.{samples-products-agree}
 use Rattle.magnus.proofs.FormedZeros.{Vanishes, KeepsZeros, add-zero-vector, formed-terms, sum-zero, difference-zero}

@@ -1,43 +1,15 @@
 -- Whether every number formed by a step of order 6 is finite (01, demand 3 and part 9): the formula of Omega6.antt, read
--- over operators that tell of the result of each operation, at every place, whether it is finite. Assumes nothing.
+-- over the operators of Formed.antt, which tell of each result whether it is finite. Assumes nothing.
 use mathlib.Core.Path.{_≡_, refl}
-use mathlib.Core.Bool.{Bool, true, _&&_}
-use mathlib.Core.List.{List}
+use mathlib.Core.Bool.{Bool, _&&_}
 use Prim.Native.Nat.{ℕ}
 use lib.Ieee.{Float, Format}
 use lib.Ieee.Scale.{finite}
 use Rattle.arithmetic.specs.Arithmetic.{Arithmetic, ieee}
-use Rattle.magnus.specs.Operators.{Operator}
-use Rattle.magnus.specs.OperatorArithmetic.{OperatorArithmetic, onVectors}
+use Rattle.magnus.specs.OperatorArithmetic.{onVectors}
 use Rattle.magnus.specs.Omega6.{Constants6, b1, b2, secondDifference, b3, c1, twoB3PlusC1, twoB3PlusC1OfB1}
 use Rattle.magnus.specs.Omega6.{c2, lop, rop, omega6}
-use Rattle.magnus.specs.Formed.{FormedOperator, finiteVector, formedTaylor}
-
-module _ (f : Format) (n : ℕ) where
-  open Arithmetic (onVectors (ieee f) n .operators) using (zero, past, _+_, _-_, _*_ as _∘_, -_)
-
-  infixl 60 _+_ _-_
-  infixr 75 _∘_
-  infix 80 -_
-  -- an operator whose result is that of an operation: what its operands form, and the result
-  abbrev result : Operator (ieee f) n → (List Float → Bool) → FormedOperator
-  result X operands = record { apply = X; formed = λ v. operands v && finiteVector n (X v) }
-
-  -- Sums, differences, negatives and multiples have a result of their own. A composition has none, but what the second
-  -- operator forms of the first one's result.
-  abbrev pub formedOperators : OperatorArithmetic Float FormedOperator
-  formedOperators = record {
-    numbers = ieee f;
-    operators = record {
-      zero = record { apply = zero; formed = λ v. true };
-      past = record { apply = past; formed = λ v. true };
-      _+_ = λ X Y. result (X .apply + Y .apply) (λ v. X .formed v && Y .formed v);
-      _-_ = λ X Y. result (X .apply - Y .apply) (λ v. X .formed v && Y .formed v);
-      _*_ = λ X Y. record { apply = X .apply ∘ Y .apply; formed = λ v. Y .formed v && X .formed (Y .apply v) };
-      -_ = λ X. result (- X .apply) (X .formed);
-    };
-    scale = λ s X. result (onVectors (ieee f) n .scale s (X .apply)) (X .formed);
-  }
+use Rattle.magnus.specs.Formed.{FormedOperator, formedOperators, formedTaylor}
 
 module _ (f : Format) where
   open Arithmetic (ieee f) using (_+_, _*_, -_)
@@ -60,7 +32,7 @@ module _ (f : Format) (n : ℕ) where
     formed = λ v. formedFactors6 f k τ && omega6 (formedOperators f n) k τ P1 P2 P3 .formed v;
   }
 
-  -- those operators compute Ω as it is computed without them
+  -- over these operators Ω is what it is over vectors
   pub formed-omega6-apply : (k : Constants6 Float) (τ : Float) (P1 P2 P3 : FormedOperator)
       → omega6 (formedOperators f n) k τ P1 P2 P3 .apply ≡ formedOmega6 k τ P1 P2 P3 .apply
   unfolding omega6 lop rop c2 twoB3PlusC1OfB1 twoB3PlusC1 c1 b3 secondDifference b2 b1
