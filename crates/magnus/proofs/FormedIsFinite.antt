@@ -1,7 +1,7 @@
 -- What "every number formed is finite" (specs/Formed.antt) comes to. An operation gives a finite result of finite
 -- operands only. So for the row product it says that the product is finite, and for the order-4 step with such
--- products, on one node or more, that the answer is. (Not so for the weighted step: a number root · v at a node that no
--- column names does not reach the answer.) Assumes nothing.
+-- products, on one node or more, that the answer is. (Not so for the weighted step, nor for that of order 6: a number
+-- root · v, or one of B2 v, at a node that no column names does not reach the answer.) Assumes nothing.
 use mathlib.Core.Logic.{_↔_}
 use mathlib.Core.List.{List}
 use Prim.Native.Nat.{ℕ, zero, suc, _<_}

@@ -139,6 +139,7 @@ module _ (f : Format) (n : ℕ) where
         (same-trans (same-equal (neg-mul f τ _))
         (mul-same f (same-refl τ) (neg-same (same-sym (agreed2 .both (same-list-sym r) .places i))))))
 
+    -- Ωv is τ · (-(P1 v)), where every number formed is finite
     pub omega6-plain : (v v' : List Float)
         → SameList v v'
         → T (formedOmega6 f n k τ P1 P2 P3 .formed v)
