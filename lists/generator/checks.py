@@ -16,8 +16,10 @@ from list_format import (
     GERSHGORIN_BOUND_CSR,
     OMEGA4,
     OMEGA4_ADJOINT,
+    OMEGA6,
     WEIGHTED_OMEGA4,
     WEIGHTED_OMEGA4_ADJOINT,
+    names_of_samples,
 )
 
 LARGEST_N = 4096
@@ -137,9 +139,9 @@ def outside_radius(inputs):
     return None
 
 
-# Row 10: the second sample's n is not n.
-def other_n(inputs):
-    return [inputs["sample 2"]["n"]] if inputs["sample 2"]["n"] != nodes(inputs) else None
+# Row 10: the second or third sample's n is not n.
+def nodes_check(sample):
+    return Check(10, sample, lambda inputs: [inputs[sample]["n"]] if inputs[sample]["n"] != nodes(inputs) else None)
 
 
 # Row 10: either weights are not n many; the larger length.
@@ -148,9 +150,12 @@ def wrong_count_of_weights(inputs):
     return [max(lengths)] if lengths != [nodes(inputs)] * 2 else None
 
 
+WORK_VECTORS = {OMEGA4: 5, OMEGA4_ADJOINT: 5, WEIGHTED_OMEGA4: 9, WEIGHTED_OMEGA4_ADJOINT: 9, OMEGA6: 22}
+
+
 def work_need(kind, inputs):
     """How many elements of the work slice a step needs."""
-    return (5 if kind in (OMEGA4, OMEGA4_ADJOINT) else 9) * nodes(inputs)
+    return WORK_VECTORS[kind] * nodes(inputs)
 
 
 # Row 10: the work slice is shorter than the need.
@@ -163,15 +168,14 @@ def weight_check(name):
     return Check(11, name, lambda inputs: next(([bits] for bits in inputs[name] if not is_positive(bits)), None))
 
 
-SAMPLE_CHECKS = sample_checks("sample 1") + sample_checks("sample 2")
-
-
 def step_checks(kind):
-    return SAMPLE_CHECKS + (
+    samples = names_of_samples(kind)
+    return (
+        *(check for sample in samples for check in sample_checks(sample)),
         bound_check("spectral bound"),
         Check(7, "tau", tau_outside),
         Check(8, "tau", outside_radius),
-        Check(10, "sample 2", other_n),
+        *(nodes_check(sample) for sample in samples[1:]),
         length_check("signal"),
         length_check("output"),
         work_check(kind),
@@ -179,13 +183,13 @@ def step_checks(kind):
 
 
 def weighted_step_checks(kind):
-    return SAMPLE_CHECKS + (
+    return sample_checks("sample 1") + sample_checks("sample 2") + (
         bound_check("spectral bound"),
         bound_check("root bound"),
         Check(12, "sample 1", no_nodes),
         Check(7, "tau", tau_outside),
         Check(8, "tau", outside_radius),
-        Check(10, "sample 2", other_n),
+        nodes_check("sample 2"),
         length_check("signal"),
         length_check("output"),
         Check(10, "weights", wrong_count_of_weights),
@@ -205,6 +209,7 @@ CHECKS = {
     OMEGA4_ADJOINT: step_checks(OMEGA4_ADJOINT),
     WEIGHTED_OMEGA4: weighted_step_checks(WEIGHTED_OMEGA4),
     WEIGHTED_OMEGA4_ADJOINT: weighted_step_checks(WEIGHTED_OMEGA4_ADJOINT),
+    OMEGA6: step_checks(OMEGA6),
 }
 
 

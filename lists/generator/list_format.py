@@ -9,7 +9,7 @@ from collections import namedtuple
 LARGEST_CASE = 65536
 
 ROOT, FROM_CSR_PARTS, GERSHGORIN_BOUND_CSR, APPLY_INTO_SLICE, COPY_FROM, AXPY_INTO_SLICE = range(1, 7)
-OMEGA4, OMEGA4_ADJOINT, WEIGHTED_OMEGA4, WEIGHTED_OMEGA4_ADJOINT = range(7, 11)
+OMEGA4, OMEGA4_ADJOINT, WEIGHTED_OMEGA4, WEIGHTED_OMEGA4_ADJOINT, OMEGA6 = range(7, 12)
 
 # What an answer says: its number in document 01's table (0: accepted) and its values.
 Answer = namedtuple("Answer", "number values")
@@ -20,9 +20,11 @@ Kind = namedtuple("Kind", "name inputs result")
 
 NETWORK = (("n", "count"), ("row starts", "counts"), ("columns", "columns"), ("values", "reals"))
 
-# Of a step: what it works with, the weights of a weighted one, and what is lent to it. The work slice is given by its length and
-# the one bit pattern of all its elements.
-STEP = (("sample 1", "network"), ("sample 2", "network"), ("tau", "real"), ("spectral bound", "real"), ("check", "flag"))
+# Of a step: its samples, its numbers, the weights of a weighted one, and what is lent to it. The work slice is given by its length
+# and the one bit pattern of all its elements.
+SAMPLES = (("sample 1", "network"), ("sample 2", "network"), ("sample 3", "network"))
+STEP_NUMBERS = (("tau", "real"), ("spectral bound", "real"), ("check", "flag"))
+STEP = SAMPLES[:2] + STEP_NUMBERS
 WEIGHTS = (("root bound", "real"), ("weights 1", "reals"), ("weights 2", "reals"))
 LENT = (("signal", "reals"), ("output", "reals"), ("work length", "count"), ("work", "real"))
 STEP_RESULT = (("answer", "answer"), ("output", "reals"))
@@ -46,7 +48,14 @@ KINDS = {
     OMEGA4_ADJOINT: Kind("apply_exp_omega4_adj_kernel", STEP + LENT, STEP_RESULT),
     WEIGHTED_OMEGA4: Kind("apply_exp_omega4_la_kernel", STEP + WEIGHTS + LENT, STEP_RESULT),
     WEIGHTED_OMEGA4_ADJOINT: Kind("apply_exp_omega4_la_adj_kernel", STEP + WEIGHTS + LENT, STEP_RESULT),
+    OMEGA6: Kind("apply_exp_omega6_kernel", SAMPLES + STEP_NUMBERS + LENT, STEP_RESULT),
 }
+
+
+def names_of_samples(kind):
+    """The samples of a step."""
+    return tuple(name for name, type_ in KINDS[kind].inputs if type_ == "network")
+
 
 # struct's letter for a number of each type, and for the elements of a slice of each type.
 NUMBERS = {"count": "Q", "real": "Q", "flag": "B"}

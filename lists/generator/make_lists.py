@@ -5,6 +5,7 @@ import sys
 import networks
 import roots
 import steps
+import steps6
 from count import describe
 from list_format import ROOT, encode_case
 from oracle import settle
@@ -14,6 +15,7 @@ LISTS = {
     "crates/replay_roots/stdin": lambda random: [(ROOT, fields) for fields in roots.inputs(random)],
     "crates/replay_networks/stdin": networks.inputs,
     "crates/replay_steps/stdin": steps.inputs,
+    "crates/replay_steps6/stdin": steps6.inputs,
 }
 
 

@@ -13,6 +13,7 @@ from list_format import (
     GERSHGORIN_BOUND_CSR,
     OMEGA4,
     OMEGA4_ADJOINT,
+    OMEGA6,
     ROOT,
     WEIGHTED_OMEGA4,
     WEIGHTED_OMEGA4_ADJOINT,
@@ -44,6 +45,7 @@ ACCEPTED = {
     OMEGA4_ADJOINT: lambda inputs: {"output": bits(formulas.step(inputs, -1.0))},
     WEIGHTED_OMEGA4: lambda inputs: {"output": bits(formulas.weighted_step(inputs, 1.0))},
     WEIGHTED_OMEGA4_ADJOINT: lambda inputs: {"output": bits(formulas.weighted_step(inputs, -1.0))},
+    OMEGA6: lambda inputs: {"output": bits(formulas.step6(inputs))},
 }
 
 # The slices that a call may write and that the list has. A refusal leaves them unchanged.
@@ -57,6 +59,7 @@ WRITTEN = {
     OMEGA4_ADJOINT: ("output",),
     WEIGHTED_OMEGA4: ("output",),
     WEIGHTED_OMEGA4_ADJOINT: ("output",),
+    OMEGA6: ("output",),
 }
 
 

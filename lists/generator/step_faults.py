@@ -6,10 +6,10 @@ import checks
 from checks import outside_radius, work_need
 from faults import FAULTS_OF_NETWORKS, TOP, Fault, change_length, length_of
 from ieee import ONE, SIGN
-from list_format import OMEGA4, OMEGA4_ADJOINT, WEIGHTED_OMEGA4, WEIGHTED_OMEGA4_ADJOINT
+from list_format import OMEGA4, OMEGA4_ADJOINT, OMEGA6, WEIGHTED_OMEGA4, WEIGHTED_OMEGA4_ADJOINT, names_of_samples
 from networks import network
 from random_reals import INFINITIES, NANS, ZEROS, huge, ordinary, signal_list, tiny
-from step_samples import moderate, moderate_tau, step_inputs, two_patterns
+from step_samples import moderate, moderate_tau, own_patterns, step_inputs
 
 ROWS_OF_PATTERNS = range(1, 7)
 NOT_POSITIVE = (*NANS, *2 * INFINITIES, *2 * ZEROS, ONE | SIGN, SIGN | 1, 0xFFEFFFFFFFFFFFFF)
@@ -43,16 +43,19 @@ def beyond_the_radius(random, inputs):
         inputs[name] = random.choice((ordinary, huge))(random) & ~SIGN
 
 
-def another_n(random, inputs):
-    """A node more in the second sample, without entries, or a node less where the last has none."""
-    second = inputs["sample 2"]
-    starts = second["row starts"]
-    if random.chance(50) and len(starts) > 1 and starts[-1] == starts[-2]:
-        second["n"] -= 1
-        del starts[-1]
-    elif second["n"] < TOP:
-        second["n"] += 1
-        starts.extend(starts[-1:])
+def another_n(sample):
+    """A node more in one of the later samples, without entries, or a node less where the last has none."""
+    def plant(random, inputs):
+        network = inputs[sample]
+        starts = network["row starts"]
+        if random.chance(50) and len(starts) > 1 and starts[-1] == starts[-2]:
+            network["n"] -= 1
+            del starts[-1]
+        elif network["n"] < TOP:
+            network["n"] += 1
+            starts.extend(starts[-1:])
+
+    return plant
 
 
 def no_nodes(random, inputs):
@@ -83,15 +86,14 @@ def count_of_weights(name):
     return lambda random, inputs: change_length(random, inputs[name], ONE)
 
 
-SAMPLES = of_sample("sample 1") + of_sample("sample 2")
-
-
 def faults_of_step(kind):
-    return SAMPLES + (
+    samples = names_of_samples(kind)
+    return (
+        *(fault for sample in samples for fault in of_sample(sample)),
         Fault(9, "spectral bound", not_positive("spectral bound")),
         Fault(7, "tau", tau_outside),
         Fault(8, "tau", beyond_the_radius),
-        Fault(10, "sample 2", another_n),
+        *(Fault(10, sample, another_n(sample)) for sample in samples[1:]),
         Fault(10, "signal", length_of("signal")),
         Fault(10, "output", length_of("output")),
         Fault(10, "work", short_work(kind)),
@@ -99,13 +101,13 @@ def faults_of_step(kind):
 
 
 def faults_of_weighted_step(kind):
-    return SAMPLES + (
+    return of_sample("sample 1") + of_sample("sample 2") + (
         Fault(9, "spectral bound", not_positive("spectral bound")),
         Fault(9, "root bound", not_positive("root bound")),
         Fault(12, "sample 1", no_nodes),
         Fault(7, "tau", tau_outside),
         Fault(8, "tau", beyond_the_radius),
-        Fault(10, "sample 2", another_n),
+        Fault(10, "sample 2", another_n("sample 2")),
         Fault(10, "signal", length_of("signal")),
         Fault(10, "output", length_of("output")),
         Fault(10, "weights", count_of_weights("weights 1")),
@@ -122,6 +124,7 @@ FAULTS_OF_STEPS = {
     OMEGA4_ADJOINT: faults_of_step(OMEGA4_ADJOINT),
     WEIGHTED_OMEGA4: faults_of_weighted_step(WEIGHTED_OMEGA4),
     WEIGHTED_OMEGA4_ADJOINT: faults_of_weighted_step(WEIGHTED_OMEGA4_ADJOINT),
+    OMEGA6: faults_of_step(OMEGA6),
 }
 
 # Without nodes: n is not above 4,096, row starts do not fall, every column is refused before a value, and no work is needed.
@@ -149,7 +152,7 @@ def drawn_for(random, kind, faults):
         return step_inputs(random, kind, samples, moderate_tau(random), [])
     n = random.between(2, 5)
     signal = signal_list(random, n, ordinary, 5)
-    return step_inputs(random, kind, two_patterns(random, n, moderate), moderate_tau(random), signal)
+    return step_inputs(random, kind, own_patterns(random, kind, n, moderate), moderate_tau(random), signal)
 
 
 def with_faults(random, kind, faults):

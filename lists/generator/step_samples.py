@@ -1,8 +1,8 @@
-"""What the inputs of steps are drawn from: two samples, τ, bounds, weights, a signal, and what is lent besides."""
+"""What the inputs of steps are drawn from: two or three samples, τ, bounds, weights, a signal, and what is lent besides."""
 
 from checks import outside_radius, work_need
 from ieee import ONE, SIGN, to_bits
-from list_format import OMEGA4, OMEGA4_ADJOINT, WEIGHTED_OMEGA4, WEIGHTED_OMEGA4_ADJOINT
+from list_format import OMEGA4, OMEGA4_ADJOINT, WEIGHTED_OMEGA4, WEIGHTED_OMEGA4_ADJOINT, names_of_samples
 from networks import network
 from random_reals import NANS, ZEROS, any_finite, finite_list, huge, ones, ordinary, signal_list, tiny, whole, with_fields
 
@@ -30,32 +30,35 @@ BOUND_SORTS = (moderate, ordinary, any_finite, tiny)
 WORK_PATTERNS = (0, SIGN, ONE, ONE | SIGN, LARGEST, 1, *NANS, 0x0123456789ABCDEF)
 
 
-def two_patterns(random, n, sort):
-    """Two samples that have nothing to do with each other."""
-    return network(random, n, sort), network(random, n, sort)
+def own_patterns(random, kind, n, sort):
+    """The samples of a step that have nothing to do with each other."""
+    return [network(random, n, sort) for _ in names_of_samples(kind)]
 
 
-def one_pattern(random, n, sort):
-    """Two samples of one pattern."""
+def one_pattern(random, kind, n, sort):
+    """The samples of a step, of one pattern."""
     first = network(random, n, sort)
-    return first, {**copied(first), "values": finite_list(random, len(first["values"]), sort)}
+    others = names_of_samples(kind)[1:]
+    return [first, *({**copied(first), "values": finite_list(random, len(first["values"]), sort)} for _ in others)]
 
 
 def copied(sample):
     return {name: list(part) if isinstance(part, list) else part for name, part in sample.items()}
 
 
-def equal_samples(random, n, sort):
-    """One sample twice; now and then with the other zeros."""
+def equal_samples(random, kind, n, sort):
+    """One sample for all; now and then with the other zeros."""
     first = network(random, n, sort)
-    second = copied(first)
-    if random.chance(30):
-        second["values"] = [value ^ SIGN if value in ZEROS else value for value in second["values"]]
-    return first, second
+    samples = [first]
+    for _ in names_of_samples(kind)[1:]:
+        samples.append(copied(first))
+        if random.chance(30):
+            samples[-1]["values"] = [value ^ SIGN if value in ZEROS else value for value in first["values"]]
+    return samples
 
 
-def one_way(random, n, sort):
-    """Two samples, equal ones at times, that carry from the other nodes to the first and nowhere else. Their products with each
+def one_way(random, kind, n, sort):
+    """Samples, equal ones at times, that carry from the other nodes to the first and nowhere else. Their products with each
     other vanish, so that values may be large without a commutator that overflows."""
     def sample():
         entries = random.between(1, 3)
@@ -63,7 +66,7 @@ def one_way(random, n, sort):
         return {"n": n, "row starts": [0] + [entries] * n, "columns": columns, "values": finite_list(random, entries, sort)}
 
     first = sample()
-    return first, copied(first) if random.chance(50) else sample()
+    return [first, *(copied(first) if random.chance(50) else sample() for _ in names_of_samples(kind)[1:])]
 
 
 def large_sample(random, n, entries):
@@ -80,7 +83,7 @@ def sample_of(n, starts, columns, values):
 def step_inputs(random, kind, samples, tau, signal, weight_sort=None):
     """Accepted inputs of a step with these samples, τ and signal; the check is on in about half of them."""
     n = len(signal)
-    inputs = {"sample 1": samples[0], "sample 2": samples[1], "tau": tau, "signal": signal}
+    inputs = {**dict(zip(names_of_samples(kind), samples)), "tau": tau, "signal": signal}
     inputs["check"] = random.below(2)
     if kind in WEIGHTED:
         for name in ("weights 1", "weights 2"):

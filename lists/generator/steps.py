@@ -2,7 +2,7 @@
 
 from checks import LARGEST_N, whole_bound
 from ieee import ONE, SIGN, to_bits, to_float
-from list_format import OMEGA4, WEIGHTED_OMEGA4_ADJOINT
+from list_format import OMEGA4, OMEGA6, WEIGHTED_OMEGA4_ADJOINT, names_of_samples
 from random_reals import FINITE_SORTS, ZEROS, huge, ones, ordinary, signal_list, special, with_fields
 from step_faults import FAULTS_OF_STEPS, ROWS_OF_PATTERNS, refused
 from step_samples import (
@@ -16,10 +16,10 @@ from step_samples import (
     moderate_tau,
     one_pattern,
     one_way,
+    own_patterns,
     positive,
     sample_of,
     step_inputs,
-    two_patterns,
 )
 
 SMALL = 8
@@ -37,7 +37,7 @@ def of_moderate_values(random, kind, count, samples):
     for _ in range(count):
         n = size(random)
         signal = signal_list(random, n, moderate, 0)
-        yield step_inputs(random, kind, samples(random, n, moderate), moderate_tau(random), signal, moderate)
+        yield step_inputs(random, kind, samples(random, kind, n, moderate), moderate_tau(random), signal, moderate)
 
 
 def of_any_values(random, kind, count, samples):
@@ -46,7 +46,7 @@ def of_any_values(random, kind, count, samples):
         n = size(random)
         signal = signal_list(random, n, random.choice(FINITE_SORTS), (0, 0, 8, 25)[k % 4])
         tau = moderate_tau(random) if random.chance(50) else random.choice(FINITE_SORTS)(random) & ~SIGN
-        yield step_inputs(random, kind, samples(random, n, random.choice(FINITE_SORTS)), tau, signal)
+        yield step_inputs(random, kind, samples(random, kind, n, random.choice(FINITE_SORTS)), tau, signal)
 
 
 def of_balanced_sizes(random, kind, count):
@@ -60,7 +60,7 @@ def of_balanced_sizes(random, kind, count):
             return with_fields(random, 1023 + exponent - 2, 1023 + exponent + 2)
 
         tau = with_fields(random, max(1023 - exponent - 2, 0), 1023 - exponent + 2) & ~SIGN
-        samples = (equal_samples, two_patterns, one_pattern)[k % 3](random, n, sort)
+        samples = (equal_samples, own_patterns, one_pattern)[k % 3](random, kind, n, sort)
         yield step_inputs(random, kind, samples, tau, signal_list(random, n, moderate, 0), moderate)
 
 
@@ -95,10 +95,10 @@ def of_each_tau(random, kind):
         def balanced(random):
             return with_fields(random, field - 1, field + 1)
 
-        for samples, sort in ((equal_samples, moderate), (two_patterns, moderate), (one_way, balanced), (one_way, balanced)):
+        for samples, sort in ((equal_samples, moderate), (own_patterns, moderate), (one_way, balanced), (one_way, balanced)):
             n = random.between(2, 4)
             signal = [random.choice(ZEROS), *signal_list(random, n - 1, moderate, 8)]
-            yield step_inputs(random, kind, samples(random, n, sort), tau, signal, moderate)
+            yield step_inputs(random, kind, samples(random, kind, n, sort), tau, signal, moderate)
 
 
 def infinite_bound(random, kind, count):
@@ -106,7 +106,7 @@ def infinite_bound(random, kind, count):
     for k in range(count):
         n = random.between(1, 4)
         signal = signal_list(random, n, moderate, 10)
-        inputs = step_inputs(random, kind, two_patterns(random, n, moderate), ZEROS[k % 2], signal)
+        inputs = step_inputs(random, kind, own_patterns(random, kind, n, moderate), ZEROS[k % 2], signal)
         inputs.update({"check": 1, "spectral bound": positive(random, huge), "root bound": positive(random, huge)})
         yield inputs
 
@@ -128,7 +128,7 @@ def at_the_radius(random, kind, count):
     for _ in range(count):
         n = random.between(1, 4)
         signal = signal_list(random, n, moderate, 0)
-        inputs = step_inputs(random, kind, two_patterns(random, n, moderate), ONE, signal, moderate)
+        inputs = step_inputs(random, kind, own_patterns(random, kind, n, moderate), ONE, signal, moderate)
         inputs["spectral bound"] = positive(random, random.choice((ordinary, ones)))
         if kind in WEIGHTED:
             inputs["root bound"] = positive(random, random.choice((moderate, ones)))
@@ -143,7 +143,7 @@ def at_the_radius_by_order(random, kind, count):
     while found < count:
         n = random.between(1, 3)
         signal = signal_list(random, n, moderate, 0)
-        inputs = step_inputs(random, kind, one_pattern(random, n, moderate), ONE, signal, moderate)
+        inputs = step_inputs(random, kind, one_pattern(random, kind, n, moderate), ONE, signal, moderate)
         inputs.update({"check": 1, "spectral bound": positive(random, ordinary), "root bound": positive(random, moderate)})
         bound, root_bound = to_float(inputs["spectral bound"]), to_float(inputs["root bound"])
         in_order, otherwise = whole_bound(inputs), bound * (root_bound * root_bound)
@@ -160,7 +160,7 @@ def order_of_sums(random, kind, count):
     amounts = (large, large | SIGN, one, one | SIGN, small, small | SIGN, 0, SIGN)
     for k in range(count):
         n = random.between(1, 4)
-        samples = (two_patterns, one_pattern, equal_samples)[k % 3](random, n, lambda random: random.choice(amounts))
+        samples = (own_patterns, one_pattern, equal_samples)[k % 3](random, kind, n, lambda random: random.choice(amounts))
         signal = [random.choice((one, one | SIGN, *ZEROS, special(random))) for _ in range(n)]
         tau = random.choice((one, one, to_bits(2.0), to_bits(0.5), *ZEROS))
         yield step_inputs(random, kind, samples, tau, signal, ones if k % 2 else moderate)
@@ -173,7 +173,7 @@ def signs_of_zeros(random, kind, count):
 
     for k in range(count):
         n = random.between(1, 3)
-        samples = (two_patterns, one_pattern, equal_samples)[k % 3](random, n, amount)
+        samples = (own_patterns, one_pattern, equal_samples)[k % 3](random, kind, n, amount)
         tau = random.choice((*ZEROS, ONE, 1))
         yield step_inputs(random, kind, samples, tau, [amount(random) for _ in range(n)], ones)
 
@@ -217,36 +217,35 @@ def without_nodes(random, kind):
     """n = 0: an unweighted step is accepted and writes nothing; a weighted one is refused. Then each fault outside the samples."""
     faults = [fault for fault in FAULTS_OF_STEPS[kind] if fault.row not in (*ROWS_OF_PATTERNS, 12) and fault.place != "work"]
     for fault in [None] * (12 if kind in UNWEIGHTED else 4) + faults:
-        inputs = step_inputs(random, kind, two_patterns(random, 0, moderate), moderate_tau(random), [])
+        inputs = step_inputs(random, kind, own_patterns(random, kind, 0, moderate), moderate_tau(random), [])
         if fault:
             fault.plant(random, inputs)
         yield inputs
 
 
 def at_the_limit(random, kind):
-    """n of 4,096 and more in either sample. One case of the first kind and one of the last have all 4,098 row starts."""
-    for sample in ("sample 1", "sample 2"):
+    """n of 4,096 and more in each sample. One case of three kinds has all 4,098 row starts."""
+    for sample in names_of_samples(kind):
         for n in (LARGEST_N, LARGEST_N + 1, 2**32 + 2, 2**64 - 1):
-            inputs = step_inputs(random, kind, one_pattern(random, 2, moderate), ONE, signal_list(random, 2, moderate, 0))
+            inputs = step_inputs(random, kind, one_pattern(random, kind, 2, moderate), ONE, signal_list(random, 2, moderate, 0))
             inputs[sample]["n"] = n
             yield inputs
-    whole = {OMEGA4: "sample 1", WEIGHTED_OMEGA4_ADJOINT: "sample 2"}
+    whole = {OMEGA4: "sample 1", WEIGHTED_OMEGA4_ADJOINT: "sample 2", OMEGA6: "sample 3"}
     if kind in whole:
-        inputs = step_inputs(random, kind, one_pattern(random, 2, moderate), ONE, signal_list(random, 2, moderate, 0))
+        inputs = step_inputs(random, kind, one_pattern(random, kind, 2, moderate), ONE, signal_list(random, 2, moderate, 0))
         n = LARGEST_N + 1
         inputs[whole[kind]] = sample_of(n, (min(i, 3) for i in range(n + 1)), range(3), (1, 2, 3))
         yield inputs
 
 
+# Nodes, and entries of each sample.
+LARGE_SIZES = {OMEGA4: [(1000, 1040)], WEIGHTED_OMEGA4_ADJOINT: [(700, 1050)], OMEGA6: [(400, 1000), (1000, 470)]}
+
+
 def large(random, kind):
     """Hundreds of nodes, and as many as a case can have."""
-    sizes = [(100, 200), (250, 500)]
-    if kind == OMEGA4:
-        sizes.append((1000, 1040))
-    if kind == WEIGHTED_OMEGA4_ADJOINT:
-        sizes.append((700, 1050))
-    for n, entries in sizes:
-        samples = large_sample(random, n, entries), large_sample(random, n, entries)
+    for n, entries in [(100, 200), (250, 500), *LARGE_SIZES.get(kind, [])]:
+        samples = [large_sample(random, n, entries) for _ in names_of_samples(kind)]
         yield step_inputs(random, kind, samples, moderate_tau(random), signal_list(random, n, moderate, 0), moderate)
 
 
@@ -256,10 +255,10 @@ def inputs_of(random, kind):
     yield from without_nodes(random, kind)
     yield from of_each_tau(random, kind)
     yield from at_the_radius(random, kind, 10)
-    yield from of_moderate_values(random, kind, 60, two_patterns)
+    yield from of_moderate_values(random, kind, 60, own_patterns)
     yield from of_moderate_values(random, kind, 50, one_pattern)
     yield from of_moderate_values(random, kind, 30, equal_samples)
-    yield from of_any_values(random, kind, 70, two_patterns)
+    yield from of_any_values(random, kind, 70, own_patterns)
     yield from of_any_values(random, kind, 30, one_pattern)
     yield from of_any_values(random, kind, 30, equal_samples)
     yield from of_balanced_sizes(random, kind, 45)

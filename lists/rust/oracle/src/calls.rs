@@ -28,12 +28,13 @@ pub fn of_kind(kind: u16) -> Option<Call> {
         8 => Some(steps::omega4_adjoint),
         9 => Some(steps::weighted_omega4),
         10 => Some(steps::weighted_omega4_adjoint),
+        11 => Some(steps::omega6),
         _ => None,
     }
 }
 
 /// The texts of the Rust's refusals and their numbers in document 01's table.
-const NUMBERS: [(&str, u16); 14] = [
+const NUMBERS: [(&str, u16); 16] = [
     ("from_csr_parts: row_ptr.len() must equal n_nodes+1", 1),
     ("from_csr_parts: row_ptr not monotone non-decreasing", 2),
     (
@@ -43,8 +44,10 @@ const NUMBERS: [(&str, u16); 14] = [
     ("from_csr_parts: col_idx entry >= n_nodes", 4),
     ("from_csr_parts: non-finite matrix entry", 5),
     ("MagnusGraphHeatChernoff: tau must be finite and >= 0", 7),
+    ("MagnusGraphHeat6thChernoff: tau must be finite and >= 0", 7),
     ("VarCoefMagnusGraphHeatChernoff: tau must be finite and >= 0", 7),
     ("MagnusGraphHeatChernoff: rho_bar_max must be finite and > 0", 9),
+    ("MagnusGraphHeat6thChernoff: rho_bar_max must be finite and > 0", 9),
     ("rho_bar_max", 9),
     ("a_sup_max", 9),
     ("VarCoefMagnusGraphHeatChernoff: a_at_t(t).len() != n_nodes", 10),

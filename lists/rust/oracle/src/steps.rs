@@ -1,8 +1,8 @@
-//! The order-4 steps of the published Rust, called as its users call them: through the structs that check the inputs, take the
-//! two samples from a closure and run the kernel. The work slice of a case stands for the Rust's own pool of vectors.
+//! The steps of the published Rust, called as its users call them: through the structs that check the inputs, take the samples
+//! from a closure and run the kernel. The work slice of a case stands for the Rust's own pool of vectors.
 
 use std::sync::{
-    atomic::{AtomicBool, Ordering},
+    atomic::{AtomicUsize, Ordering},
     Arc,
 };
 
@@ -11,6 +11,7 @@ use semiflow::{
     chernoff::ChernoffFunction,
     graph::{Graph, Laplacian},
     graph_signal::GraphSignal,
+    magnus6_graph::MagnusGraphHeat6thChernoff,
     magnus_graph::{LaplacianAtTime, MagnusGraphHeatChernoff},
     scratch::ScratchPool,
     varcoef_magnus_graph::{VarCoefMagnusGraphHeatChernoff, WeightAtTime},
@@ -24,17 +25,17 @@ use crate::{
 
 type Sample = Result<Laplacian<f64>, SemiflowError>;
 
-/// What a step of either form works with.
-struct Step {
-    samples: [Sample; 2],
+/// What a step of each form works with: its samples and its numbers.
+struct Step<const SAMPLES: usize> {
+    samples: [Sample; SAMPLES],
     tau: f64,
     bound: f64,
     check: bool,
 }
 
-impl Step {
+impl<const SAMPLES: usize> Step<SAMPLES> {
     fn of(inputs: &mut Fields) -> Self {
-        let samples = [laplacian(inputs), laplacian(inputs)];
+        let samples = core::array::from_fn(|_| laplacian(inputs));
         let (tau, bound) = (inputs.real(), inputs.real());
         let check = inputs.flag();
         Self {
@@ -46,24 +47,27 @@ impl Step {
     }
 }
 
-/// The first sample at the first call and the second at the second, whatever the time: at τ = 0 both have one time.
-fn in_turn<T: Clone>(first: T, second: T) -> impl Fn(f64) -> T {
-    let called = AtomicBool::new(false);
-    move |_| {
-        if called.swap(true, Ordering::Relaxed) {
-            second.clone()
-        } else {
-            first.clone()
-        }
-    }
+/// The first sample at the first call, the second at the second and so on, whatever the time: at τ = 0 all have one time.
+fn in_turn<T: Clone>(samples: Vec<T>) -> impl Fn(f64) -> T {
+    let calls = AtomicUsize::new(0);
+    move |_| samples[calls.fetch_add(1, Ordering::Relaxed)].clone()
 }
 
-/// The two samples, the first wholly checked before the second, and the first one's n.
-fn samples_in_turn(samples: [Sample; 2]) -> Result<(LaplacianAtTime<f64>, usize), SemiflowError> {
-    let [first, second] = samples;
-    let (first, second) = (Arc::new(first?), Arc::new(second?));
-    let n = first.n_nodes();
-    Ok((Box::new(in_turn(first, second)), n))
+/// The samples, each wholly checked before the next, and the first one's n.
+fn samples_in_turn<const SAMPLES: usize>(
+    samples: [Sample; SAMPLES],
+) -> Result<(LaplacianAtTime<f64>, usize), SemiflowError> {
+    let mut checked = Vec::new();
+    for sample in samples {
+        checked.push(Arc::new(sample?));
+    }
+    let n = checked[0].n_nodes();
+    Ok((Box::new(in_turn(checked)), n))
+}
+
+/// A network of n nodes for the constructors that refuse one of no nodes. A step does not read it, so one node stands in for none.
+fn graph_of(n: usize) -> Result<Arc<Graph<f64>>, SemiflowError> {
+    Ok(Arc::new(Graph::from_edges(n.max(1), Vec::new())?))
 }
 
 /// The answer of a step that writes to `output`, with the slice afterwards.
@@ -80,7 +84,7 @@ fn reply(
 
 /// `apply_exp_omega4_kernel`, or the adjoint one.
 fn step(inputs: &mut Fields, adjoint: bool) -> Reply {
-    let Step {
+    let Step::<2> {
         samples,
         tau,
         bound,
@@ -89,9 +93,7 @@ fn step(inputs: &mut Fields, adjoint: bool) -> Reply {
     let (signal, output) = (inputs.reals(), inputs.reals());
     reply(&output, |dst, scratch| {
         let (samples, n) = samples_in_turn(samples)?;
-        // The constructor refuses a graph of no nodes. A step does not read the graph, so one node stands in for none.
-        let graph = Arc::new(Graph::from_edges(n.max(1), Vec::new())?);
-        let magnus = MagnusGraphHeatChernoff::new(graph, samples, bound, check)?;
+        let magnus = MagnusGraphHeatChernoff::new(graph_of(n)?, samples, bound, check)?;
         let src = access::signal_of(&signal);
         if adjoint {
             magnus.apply_state_adjoint_into(tau, &src, dst, scratch)
@@ -103,7 +105,7 @@ fn step(inputs: &mut Fields, adjoint: bool) -> Reply {
 
 /// `apply_exp_omega4_la_kernel`, or the adjoint one.
 fn weighted_step(inputs: &mut Fields, adjoint: bool) -> Reply {
-    let Step {
+    let Step::<2> {
         samples,
         tau,
         bound,
@@ -114,7 +116,7 @@ fn weighted_step(inputs: &mut Fields, adjoint: bool) -> Reply {
     let (signal, output) = (inputs.reals(), inputs.reals());
     reply(&output, |dst, scratch| {
         let (samples, n) = samples_in_turn(samples)?;
-        let weights: WeightAtTime<f64> = Box::new(in_turn(weights_1, weights_2));
+        let weights: WeightAtTime<f64> = Box::new(in_turn(vec![weights_1, weights_2]));
         let magnus = VarCoefMagnusGraphHeatChernoff::new(n, samples, weights, bound, root_bound)?;
         let magnus = magnus.with_radius_check(check);
         let src = access::signal_of(&signal);
@@ -140,4 +142,20 @@ pub fn weighted_omega4(inputs: &mut Fields) -> Reply {
 
 pub fn weighted_omega4_adjoint(inputs: &mut Fields) -> Reply {
     weighted_step(inputs, true)
+}
+
+/// `apply_exp_omega6_kernel`.
+pub fn omega6(inputs: &mut Fields) -> Reply {
+    let Step::<3> {
+        samples,
+        tau,
+        bound,
+        check,
+    } = Step::of(inputs);
+    let (signal, output) = (inputs.reals(), inputs.reals());
+    reply(&output, |dst, scratch| {
+        let (samples, n) = samples_in_turn(samples)?;
+        let magnus = MagnusGraphHeat6thChernoff::new(graph_of(n)?, samples, bound, check)?;
+        magnus.apply_into(tau, &access::signal_of(&signal), dst, scratch)
+    })
 }
