@@ -1,4 +1,4 @@
-"""The table of docs/CONVERGENCE.md: the errors of order-4 steps on a small network whose samples do not commute, with the steps halved."""
+"""The tables of docs/CONVERGENCE.md for order 4: the errors on a small network whose samples do not commute, with the steps halved."""
 
 from decimal import Decimal, getcontext
 
@@ -38,9 +38,14 @@ def run(count, sign, weighted):
     return signal
 
 
+def matrix(rows):
+    """Nine numbers, row by row, as rows of exact numbers."""
+    return [[Decimal(x) for x in rows[3 * i : 3 * i + 3]] for i in NODES]
+
+
 def matrices(weighted):
     """The matrices M0, M1, .. of the operator M0 + t·M1 + t²·M2 + .."""
-    start, growth = ([[Decimal(x) for x in list[3 * i : 3 * i + 3]] for i in NODES] for list in (START, GROWTH))
+    start, growth = matrix(START), matrix(GROWTH)
     if not weighted:
         return [start, growth]
     g = [Decimal(x) for x in ROOT_GROWTH]
@@ -55,9 +60,9 @@ def matrices(weighted):
     return sums
 
 
-def solution(weighted):
-    """u(1) of u' = -L(t)·u to 50 digits, by the power series of u about 0, which converges everywhere."""
-    operator = matrices(weighted)
+def solution(operator):
+    """u(1) of u' = -L(t)·u to 50 digits, by the power series of u about 0, which converges everywhere. The operator L(t) is given by
+    its matrices M0, M1, .."""
     terms = [[Decimal(x) for x in SIGNAL]]
     for k in range(200):
         total = [Decimal(0) for _ in NODES]
@@ -70,24 +75,31 @@ def solution(weighted):
     return [sum(term[i] for term in terms) for i in NODES]
 
 
-def error(count, sign, weighted, exact):
-    return max(abs(Decimal(x) - y) for x, y in zip(run(count, sign, weighted), exact))
+def error(signal, exact):
+    """The largest over the nodes."""
+    return max(abs(Decimal(x) - y) for x, y in zip(signal, exact))
+
+
+def order(before, error):
+    """The binary logarithm of the error's fall."""
+    return f"{(before / error).ln() / Decimal(2).ln():.2f}"
 
 
 def table(weighted):
-    exact = solution(weighted)
+    exact = solution(matrices(weighted))
     print("| steps | error, forward | order | error, sign of the commutator flipped | order |")
     print("|---|---|---|---|---|")
     before = None
     for count in COUNTS:
-        errors = [error(count, sign, weighted, exact) for sign in (1.0, -1.0)]
-        orders = ["" if before is None else f"{(b / e).ln() / Decimal(2).ln():.2f}" for b, e in zip(before or errors, errors)]
+        errors = [error(run(count, sign, weighted), exact) for sign in (1.0, -1.0)]
+        orders = [order(*pair) for pair in zip(before, errors)] if before else ["", ""]
         print(f"| {count} | {errors[0]:.3e} | {orders[0]} | {errors[1]:.3e} | {orders[1]} |")
         before = errors
 
 
 getcontext().prec = 60
-for weighted in (False, True):
-    print("Weighted:" if weighted else "Unweighted:", end="\n\n")
-    table(weighted)
-    print()
+if __name__ == "__main__":
+    for weighted in (False, True):
+        print("Weighted:" if weighted else "Unweighted:", end="\n\n")
+        table(weighted)
+        print()
