@@ -12,11 +12,15 @@ from list_format import (
     APPLY_INTO_SLICE,
     AXPY_INTO_SLICE,
     COPY_FROM,
+    EVOLVE,
+    EVOLVE_ADJOINT,
     FROM_CSR_PARTS,
     GERSHGORIN_BOUND_CSR,
     OMEGA4,
     OMEGA4_ADJOINT,
     OMEGA6,
+    SEGMENT_INDEX,
+    WEIGHTED_EVOLVE_ADJOINT,
     WEIGHTED_OMEGA4,
     WEIGHTED_OMEGA4_ADJOINT,
     names_of_samples,
@@ -24,6 +28,8 @@ from list_format import (
 
 LARGEST_N = 4096
 MOST_COLUMNS = 65535
+MOST_SEGMENTS = 65535
+MOST_STEPS = 65535
 HALF_PI = to_float(0x3FF921FB54442D18)
 
 # Rows of 01's table whose values are reals. The others carry counts.
@@ -145,17 +151,29 @@ def nodes_check(sample):
 
 
 # Row 10: either weights are not n many; the larger length.
-def wrong_count_of_weights(inputs):
-    lengths = [len(inputs["weights 1"]), len(inputs["weights 2"])]
-    return [max(lengths)] if lengths != [nodes(inputs)] * 2 else None
+def weights_length_check(first, second):
+    def wrong_count_of_weights(inputs):
+        lengths = [len(inputs[first]), len(inputs[second])]
+        return [max(lengths)] if lengths != [nodes(inputs)] * 2 else None
+
+    return Check(10, "weights", wrong_count_of_weights)
 
 
-WORK_VECTORS = {OMEGA4: 5, OMEGA4_ADJOINT: 5, WEIGHTED_OMEGA4: 9, WEIGHTED_OMEGA4_ADJOINT: 9, OMEGA6: 22}
+WORK_VECTORS = {
+    OMEGA4: 5,
+    OMEGA4_ADJOINT: 5,
+    WEIGHTED_OMEGA4: 9,
+    WEIGHTED_OMEGA4_ADJOINT: 9,
+    OMEGA6: 22,
+    EVOLVE: 7,
+    EVOLVE_ADJOINT: 7,
+    WEIGHTED_EVOLVE_ADJOINT: 11,
+}
 
 
 def work_need(kind, inputs):
-    """How many elements of the work slice a step needs."""
-    return WORK_VECTORS[kind] * nodes(inputs)
+    """How many elements of the work slice a step or a run needs: so many times n, and for a run 2m more."""
+    return WORK_VECTORS[kind] * nodes(inputs) + (2 * len(inputs["columns"]) if "columns" in inputs else 0)
 
 
 # Row 10: the work slice is shorter than the need.
@@ -192,10 +210,144 @@ def weighted_step_checks(kind):
         nodes_check("sample 2"),
         length_check("signal"),
         length_check("output"),
-        Check(10, "weights", wrong_count_of_weights),
+        weights_length_check("weights 1", "weights 2"),
         work_check(kind),
         weight_check("weights 1"),
         weight_check("weights 2"),
+    )
+
+
+# Row 3 of a run: its columns are not as many as the last row start says.
+def wrong_count_of_columns(inputs):
+    return next(([last] for last in inputs["row starts"][-1:] if len(inputs["columns"]) != last), None)
+
+
+# Row 13: segments 0 or > 65,535; in an adjoint run other than one.
+def wrong_count_of_segments(inputs):
+    return None if 1 <= inputs["segments"] <= MOST_SEGMENTS else [inputs["segments"]]
+
+
+def not_one_segment(inputs):
+    return None if inputs["segments"] == 1 else [inputs["segments"]]
+
+
+# Row 14: breakpoints not segments+1; start, end pool not segments·m; laws not segments.
+def pool_check(name, needed):
+    return Check(14, name, lambda inputs: [len(inputs[name])] if len(inputs[name]) != needed(inputs) else None)
+
+
+BREAKPOINTS_CHECK = pool_check("breakpoints", lambda inputs: inputs["segments"] + 1)
+POOL_CHECKS = (
+    BREAKPOINTS_CHECK,
+    pool_check("start pool", lambda inputs: inputs["segments"] * len(inputs["columns"])),
+    pool_check("end pool", lambda inputs: inputs["segments"] * len(inputs["columns"])),
+    pool_check("laws", lambda inputs: inputs["segments"]),
+)
+
+
+# Row 15: the first breakpoint not finite, or not above its predecessor.
+def breakpoint_at_fault(inputs):
+    times = inputs["breakpoints"]
+    for i, time in enumerate(times):
+        if not is_finite(time) or (i > 0 and not to_float(time) > to_float(times[i - 1])):
+            return [time]
+    return None
+
+
+# Row 16: steps over 65,535; 0 in a forward run.
+def too_many_steps(inputs):
+    return [inputs["steps"]] if inputs["steps"] > MOST_STEPS else None
+
+
+def wrong_count_of_steps(inputs):
+    return [0] if inputs["steps"] == 0 else too_many_steps(inputs)
+
+
+# Row 17: the first breakpoint not 0.
+def other_start(inputs):
+    return next(([time] for time in inputs["breakpoints"][:1] if to_float(time) != 0), None)
+
+
+# Row 18: the lookup time NaN or outside.
+def time_outside(inputs):
+    times = [to_float(time) for time in inputs["breakpoints"]]
+    return None if times and times[0] <= to_float(inputs["t"]) <= times[-1] else [inputs["t"]]
+
+
+# Row 19: the first law above 2.
+def unknown_law(inputs):
+    return next(([law] for law in inputs["laws"] if law > 2), None)
+
+
+# Row 5 of a run: the first value not finite in all start lists, then in the end lists.
+def pooled_value_check(name):
+    return Check(5, name, lambda inputs: next(([value] for value in inputs[name] if not is_finite(value)), None))
+
+
+def lengths_of_steps(inputs):
+    """Part 10: the τ of each segment, (end−start)/steps."""
+    times = [to_float(time) for time in inputs["breakpoints"][: inputs["segments"] + 1]]
+    return [(end - start) / inputs["steps"] for start, end in zip(times, times[1:])] if inputs["steps"] else []
+
+
+# Row 8 of a forward run: the check is on and bound·τ >= π/2 in some segment; the first of them.
+def segment_outside_radius(inputs):
+    bound = to_float(inputs["spectral bound"])
+    taus = lengths_of_steps(inputs) if inputs["check"] else []
+    return next(([to_bits(tau), to_bits(bound)] for tau in taus if bound * tau >= HALF_PI), None)
+
+
+# 6 and 1 to 4 of a run.
+RUN_PATTERN_CHECKS = tuple(
+    Check(row, "network", wrong_count_of_columns if row == 3 else met) for row, met in PATTERN_ROWS if row != 5
+)
+LOOKUP_CHECKS = (
+    Check(13, "segments", wrong_count_of_segments),
+    BREAKPOINTS_CHECK,
+    Check(15, "breakpoints", breakpoint_at_fault),
+    Check(18, "t", time_outside),
+)
+FORWARD_CHECKS = RUN_PATTERN_CHECKS + (
+    Check(13, "segments", wrong_count_of_segments),
+    *POOL_CHECKS,
+    Check(15, "breakpoints", breakpoint_at_fault),
+    Check(19, "laws", unknown_law),
+    pooled_value_check("start pool"),
+    pooled_value_check("end pool"),
+    bound_check("spectral bound"),
+    Check(16, "steps", wrong_count_of_steps),
+    Check(17, "breakpoints", other_start),
+    length_check("signal"),
+    length_check("output"),
+    work_check(EVOLVE),
+    Check(8, "tau", segment_outside_radius),
+)
+
+
+def with_steps(check):
+    """A check that an adjoint run of no steps does not make."""
+    return check._replace(met=lambda inputs: check.met(inputs) if inputs["steps"] else None)
+
+
+def adjoint_checks(kind):
+    weighted = kind == WEIGHTED_EVOLVE_ADJOINT
+    return RUN_PATTERN_CHECKS + (
+        Check(13, "segments", not_one_segment),
+        *POOL_CHECKS,
+        Check(15, "breakpoints", breakpoint_at_fault),
+        Check(17, "breakpoints", other_start),
+        Check(19, "laws", unknown_law),
+        pooled_value_check("start pool"),
+        pooled_value_check("end pool"),
+        bound_check("spectral bound"),
+        *((bound_check("root bound"), Check(12, "network", no_nodes)) if weighted else ()),
+        with_steps(Check(16, "steps", too_many_steps)),
+        with_steps(Check(7, "tau", tau_outside)),
+        with_steps(Check(8, "tau", outside_radius)),
+        length_check("signal"),
+        length_check("output"),
+        *((with_steps(weights_length_check("start weights", "end weights")),) if weighted else ()),
+        with_steps(work_check(kind)),
     )
 
 
@@ -210,6 +362,10 @@ CHECKS = {
     WEIGHTED_OMEGA4: weighted_step_checks(WEIGHTED_OMEGA4),
     WEIGHTED_OMEGA4_ADJOINT: weighted_step_checks(WEIGHTED_OMEGA4_ADJOINT),
     OMEGA6: step_checks(OMEGA6),
+    SEGMENT_INDEX: LOOKUP_CHECKS,
+    EVOLVE: FORWARD_CHECKS,
+    EVOLVE_ADJOINT: adjoint_checks(EVOLVE_ADJOINT),
+    WEIGHTED_EVOLVE_ADJOINT: adjoint_checks(WEIGHTED_EVOLVE_ADJOINT),
 }
 
 

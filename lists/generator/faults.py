@@ -1,7 +1,9 @@
 """Faults that are planted in accepted inputs, one for each way in which a row of document 01's table can be met."""
 
 from collections import namedtuple
+from itertools import combinations
 
+import checks
 from checks import LARGEST_N
 from ieee import ONE
 from list_format import APPLY_INTO_SLICE, FROM_CSR_PARTS, GERSHGORIN_BOUND_CSR
@@ -95,3 +97,33 @@ FAULTS_OF_CALLS = {
     GERSHGORIN_BOUND_CSR: FAULTS_OF_NETWORKS,
     APPLY_INTO_SLICE: FAULTS_OF_NETWORKS + (Fault(10, "signal", length_of("signal")), Fault(10, "output", length_of("output"))),
 }
+
+
+def shown(kind, inputs, faults):
+    """Is each of the faults present, and the first of them the first that the call meets?"""
+    met = [(check.row, check.place) for check in checks.faults(kind, inputs)]
+    planted = [(fault.row, fault.place) for fault in faults]
+    return met[:1] == planted[:1] and all(fault in met for fault in planted)
+
+
+def with_faults(random, kind, faults, drawn_for):
+    """Inputs of a call that show these faults, which stand in the order of its checks and are planted in inputs drawn for them."""
+    for _ in range(10000):
+        inputs = drawn_for(random, kind, faults)
+        for fault in faults:
+            fault.plant(random, inputs)
+        if shown(kind, inputs, faults):
+            return inputs
+    raise ValueError(f"no inputs show {[(fault.row, fault.place) for fault in faults]}")
+
+
+def alone_and_together(random, faults, times_alone, triples, can_stand_together):
+    """Each fault alone, so many times; each pair of faults; and some triples."""
+    chosen = [[fault] for fault in faults for _ in range(times_alone(fault))]
+    chosen += combinations(faults, 2)
+    while triples > 0:
+        three = sorted({random.below(len(faults)) for _ in range(3)})
+        if len(three) == 3 and can_stand_together([faults[i] for i in three]):
+            chosen.append([faults[i] for i in three])
+            triples -= 1
+    return [some for some in chosen if can_stand_together(some)]

@@ -16,16 +16,16 @@ def floats(bits):
     return [to_float(value) for value in bits]
 
 
-def rows(network):
+def rows(network, values):
     """The entries of each row in stored order, a value and a column each."""
-    starts, columns, values = network["row starts"], network["columns"], floats(network["values"])
+    starts, columns = network["row starts"], network["columns"]
     return [[(values[k], columns[k]) for k in range(starts[i], starts[i + 1])] for i in range(network["n"])]
 
 
 def gershgorin_bound(network):
     """Part 2: the largest sum of absolute values over the rows."""
     largest = 0.0
-    for row in rows(network):
+    for row in rows(network, floats(network["values"])):
         total = 0.0
         for value, _ in row:
             total = total + abs(value)
@@ -33,9 +33,9 @@ def gershgorin_bound(network):
     return largest
 
 
-def product_with(network):
+def product_of(network, values):
     """Part 1: the product as a function of the signal. Row i starts at +0 and adds value·signal[column] in stored order."""
-    entries = rows(network)
+    entries = rows(network, values)
 
     def product(signal):
         sums = []
@@ -47,6 +47,10 @@ def product_with(network):
         return sums
 
     return product
+
+
+def product_with(network):
+    return product_of(network, floats(network["values"]))
 
 
 def scaled_sum(target, alpha, source):
@@ -75,15 +79,18 @@ def root(bits):
     return to_bits(kept * 2.0 ** (exponent + surplus))
 
 
-def weighted_product_with(network, weights):
+def weighted_product_of(product, weights):
     """Part 5: root·(L(root·v)) at each place."""
-    product = product_with(network)
     roots = [to_float(root(weight)) for weight in weights]
 
     def weighted_product(v):
         return [r * y for r, y in zip(roots, product([r * x for r, x in zip(roots, v)]))]
 
     return weighted_product
+
+
+def weighted_product_with(network, weights):
+    return weighted_product_of(product_with(network), weights)
 
 
 def omega4(l1, l2, tau, sign, s, v):

@@ -11,11 +11,14 @@ LARGEST_CASE = 65536
 ROOT, FROM_CSR_PARTS, GERSHGORIN_BOUND_CSR, APPLY_INTO_SLICE, COPY_FROM, AXPY_INTO_SLICE = range(1, 7)
 OMEGA4, OMEGA4_ADJOINT, WEIGHTED_OMEGA4, WEIGHTED_OMEGA4_ADJOINT, OMEGA6 = range(7, 12)
 
+SEGMENT_INDEX, EVOLVE, EVOLVE_ADJOINT, WEIGHTED_EVOLVE_ADJOINT = range(12, 16)
+RULED_SEGMENT_INDEX, RULED_EVOLVE, RULED_EVOLVE_ADJOINT, RULED_WEIGHTED_EVOLVE_ADJOINT = range(16, 20)
+
 # What an answer says: its number in document 01's table (0: accepted) and its values.
 Answer = namedtuple("Answer", "number values")
 Case = namedtuple("Case", "kind inputs result")
 
-# The fields of a kind, each a name and a type. `bound` stands only behind an answer that accepts.
+# The fields of a kind, each a name and a type. `bound` and `index` stand only behind an answer that accepts.
 Kind = namedtuple("Kind", "name inputs result")
 
 NETWORK = (("n", "count"), ("row starts", "counts"), ("columns", "columns"), ("values", "reals"))
@@ -28,6 +31,26 @@ STEP = SAMPLES[:2] + STEP_NUMBERS
 WEIGHTS = (("root bound", "real"), ("weights 1", "reals"), ("weights 2", "reals"))
 LENT = (("signal", "reals"), ("output", "reals"), ("work length", "count"), ("work", "real"))
 STEP_RESULT = (("answer", "answer"), ("output", "reals"))
+
+# Of a run: the pattern of all its segments, the segments with a start list, an end list and a law each, and its numbers.
+LOOKUP = (("segments", "count"), ("breakpoints", "reals"))
+LISTS_OF_SEGMENTS = (("start pool", "reals"), ("end pool", "reals"), ("laws", "counts"))
+TRAJECTORY = NETWORK[:3] + LOOKUP + LISTS_OF_SEGMENTS
+FORWARD_NUMBERS = (("steps", "count"), ("spectral bound", "real"), ("check", "flag"))
+ADJOINT_NUMBERS = (("tau", "real"),) + FORWARD_NUMBERS
+RUN_WEIGHTS = (("root bound", "real"), ("start weights", "reals"), ("end weights", "reals"))
+
+# The same by rules (rules.py), for runs whose slices are too long for a case.
+RULED_PATTERN = (
+    ("n", "count"),
+    ("first row start", "count"),
+    ("row width", "count"),
+    ("entries", "count"),
+    ("column stride", "count"),
+)
+RULED_LOOKUP = (("segments", "count"), ("increments", "reals"))
+RULED_TRAJECTORY = RULED_PATTERN + RULED_LOOKUP + LISTS_OF_SEGMENTS
+RULED_LENT = (("signal", "reals"), ("output", "real"), ("work length", "count"), ("work", "real"))
 
 KINDS = {
     ROOT: Kind("sqrt", (("x", "real"),), (("root", "real"),)),
@@ -49,6 +72,24 @@ KINDS = {
     WEIGHTED_OMEGA4: Kind("apply_exp_omega4_la_kernel", STEP + WEIGHTS + LENT, STEP_RESULT),
     WEIGHTED_OMEGA4_ADJOINT: Kind("apply_exp_omega4_la_adj_kernel", STEP + WEIGHTS + LENT, STEP_RESULT),
     OMEGA6: Kind("apply_exp_omega6_kernel", SAMPLES + STEP_NUMBERS + LENT, STEP_RESULT),
+    SEGMENT_INDEX: Kind("segment_index", LOOKUP + (("t", "real"),), (("answer", "answer"), ("index", "count"))),
+    EVOLVE: Kind("evolve_with_traj_into", TRAJECTORY + FORWARD_NUMBERS + LENT, STEP_RESULT),
+    EVOLVE_ADJOINT: Kind("evolve_state_adjoint_into", TRAJECTORY + ADJOINT_NUMBERS + LENT, STEP_RESULT),
+    WEIGHTED_EVOLVE_ADJOINT: Kind(
+        "evolve_state_adjoint_into, weighted", TRAJECTORY + ADJOINT_NUMBERS + RUN_WEIGHTS + LENT, STEP_RESULT
+    ),
+    RULED_SEGMENT_INDEX: Kind(
+        "segment_index, by rules", RULED_LOOKUP + (("t", "real"),), (("answer", "answer"), ("index", "count"))
+    ),
+    RULED_EVOLVE: Kind("evolve_with_traj_into, by rules", RULED_TRAJECTORY + FORWARD_NUMBERS + RULED_LENT, STEP_RESULT),
+    RULED_EVOLVE_ADJOINT: Kind(
+        "evolve_state_adjoint_into, by rules", RULED_TRAJECTORY + ADJOINT_NUMBERS + RULED_LENT, STEP_RESULT
+    ),
+    RULED_WEIGHTED_EVOLVE_ADJOINT: Kind(
+        "evolve_state_adjoint_into, weighted, by rules",
+        RULED_TRAJECTORY + ADJOINT_NUMBERS + RUN_WEIGHTS + RULED_LENT,
+        STEP_RESULT,
+    ),
 }
 
 
@@ -117,7 +158,7 @@ class Reader:
     def fields(self, fields):
         values = {}
         for name, type_ in fields:
-            if name == "bound" and values["answer"].number != 0:
+            if name in ("bound", "index") and values["answer"].number != 0:
                 continue
             values[name] = self.field(type_)
         return values

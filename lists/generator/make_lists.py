@@ -4,6 +4,7 @@ import sys
 
 import networks
 import roots
+import runs
 import steps
 import steps6
 from count import describe
@@ -16,6 +17,7 @@ LISTS = {
     "crates/replay_networks/stdin": networks.inputs,
     "crates/replay_steps/stdin": steps.inputs,
     "crates/replay_steps6/stdin": steps6.inputs,
+    "crates/replay_runs/stdin": runs.inputs,
 }
 
 

@@ -3,12 +3,16 @@
 import subprocess
 import sys
 
-from checks import ROWS_OF_REALS, faults
+from checks import HALF_PI, ROWS_OF_REALS, faults, lengths_of_steps
 from formulas import root
-from ieee import is_nan, to_float
+from ieee import is_finite, is_nan, to_float
 from list_format import (
+    EVOLVE,
+    EVOLVE_ADJOINT,
     KINDS,
     ROOT,
+    SEGMENT_INDEX,
+    WEIGHTED_EVOLVE_ADJOINT,
     WEIGHTED_OMEGA4,
     WEIGHTED_OMEGA4_ADJOINT,
     Answer,
@@ -18,19 +22,54 @@ from list_format import (
     encode_inputs,
 )
 from reference import result
+from rules import expanded
 
 # Differences between the Rust and document 01 that it lists: where the reference alone decides.
-REFERENCE_ALONE = {6: "the Rust has no row 6", 10: "the Rust only asserts lengths"}
+REFERENCE_ALONE = {6: "the Rust has no row 6", 10: "the Rust only asserts lengths", 19: "the Rust has closures and no laws"}
+# Of the lengths, the Rust refuses two: the weights of a forward step and the signal of a forward run.
+LENGTHS_OF_RUST = {(WEIGHTED_OMEGA4, "weights"), (EVOLVE, "signal")}
+# What the Rust's adjoint runs do not have: segments and a limit of steps. Rows 13 to 17 of a forward run and of a lookup are in
+# the Rust, but for pools and laws, for breakpoints that are not finite, and for the limit of steps.
+ADJOINT_ROWS_ALONE = {13, 14, 15, 16, 17}
+MOST_SEGMENTS_OF_ORACLE = 100000
 
 
 def reference_alone(kind, inputs):
-    """Does the reference alone decide? Of the lengths, the Rust refuses one: that of the weights of a forward step."""
+    """Does the reference alone decide?"""
     met = faults(kind, inputs) if kind != ROOT else []
-    return bool(met) and met[0].row in REFERENCE_ALONE and (kind, met[0].place) != (WEIGHTED_OMEGA4, "weights")
+    if not met:
+        return False
+    row, place, value = met[0].row, met[0].place, met[0].met(inputs)[0]
+    if row in REFERENCE_ALONE:
+        return (kind, place) not in LENGTHS_OF_RUST
+    if kind in (EVOLVE_ADJOINT, WEIGHTED_EVOLVE_ADJOINT):
+        return row in ADJOINT_ROWS_ALONE
+    return kind in (SEGMENT_INDEX, EVOLVE) and (
+        (row == 13 and value > MOST_SEGMENTS_OF_ORACLE)
+        or (row == 14 and place != "breakpoints")
+        or (row == 15 and not is_finite(value))
+        or (row == 16 and value > 0)
+        or (row == 18 and is_nan(value))
+        or (row == 8 and refused_during_run(inputs))
+    )
+
+
+def refused_during_run(inputs):
+    """Is a forward run refused during a step before the first segment that meets row 8? The Rust comes to that one later."""
+    bound = to_float(inputs["spectral bound"])
+    before = next(k for k, tau in enumerate(lengths_of_steps(inputs)) if bound * tau >= HALF_PI)
+    return before > 0 and result(EVOLVE, {**inputs, "segments": before, **first_lists(inputs, before)})["answer"].number != 0
+
+
+def first_lists(inputs, segments):
+    """The lists of the first segments."""
+    entries = segments * len(inputs["columns"])
+    lengths = {"breakpoints": segments + 1, "start pool": entries, "end pool": entries, "laws": segments}
+    return {name: inputs[name][:length] for name, length in lengths.items()}
 
 
 def replies(program, inputs):
-    """The Rust's result of each case, None where it panicked. `inputs` are pairs of a kind and inputs."""
+    """The Rust's result of each case, None where it panicked. `inputs` are pairs of a kind and inputs, written out."""
     asked = b"".join(encode_inputs(kind, fields) for kind, fields in inputs)
     run = subprocess.run([program], input=asked, stdout=subprocess.PIPE, check=True)
     reader = Reader(run.stdout)
@@ -59,7 +98,7 @@ def agreed_answer(kind, reference, rust):
     where the weighted adjoint reports a weight's root, it is that of the reference's weight."""
     if rust.number != reference.number or len(rust.values) != len(reference.values):
         raise Difference(f"answer {rust} where the reference has {reference}")
-    if kind == WEIGHTED_OMEGA4_ADJOINT and reference.number == 11:
+    if kind in (WEIGHTED_OMEGA4_ADJOINT, WEIGHTED_EVOLVE_ADJOINT) and reference.number == 11:
         agreed_real(root(reference.values[0]), rust.values[0])
         return reference
     if reference.number in ROWS_OF_REALS:
@@ -84,17 +123,24 @@ def agreed(kind, reference, rust):
     return both
 
 
+def settled(kind, inputs, rust):
+    """The result that the Rust and the reference agree on."""
+    if rust is None:
+        raise Difference("a panic")
+    return agreed(kind, result(kind, inputs), rust)
+
+
 def settle(program, inputs):
-    """The cases with their results. Stops at a difference between the Rust and the reference that 01 does not list."""
+    """The cases with their results. Stops at a difference between the Rust and the reference that 01 does not list. The Rust is not
+    asked where the reference alone decides: it has no limit of steps, for one."""
+    calls = [expanded(*pair) for pair in inputs]
+    alone = [reference_alone(*call) for call in calls]
+    answers = replies(program, [call for call, is_alone in zip(calls, alone) if not is_alone])
     cases = []
-    for (kind, fields), rust in zip(inputs, replies(program, inputs)):
-        expected = result(kind, fields)
-        if not reference_alone(kind, fields):
-            try:
-                if rust is None:
-                    raise Difference("a panic")
-                expected = agreed(kind, expected, rust)
-            except Difference as difference:
-                sys.exit(f"lists: the Rust's {KINDS[kind].name} gives {difference}\nlists: on {fields}")
+    for (kind, fields), call, is_alone in zip(inputs, calls, alone):
+        try:
+            expected = result(*call) if is_alone else settled(*call, next(answers))
+        except Difference as difference:
+            sys.exit(f"lists: the Rust's {KINDS[kind].name} gives {difference}\nlists: on {fields}")
         cases.append(Case(kind, fields, expected))
     return cases

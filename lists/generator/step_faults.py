@@ -1,10 +1,7 @@
 """Refused inputs of steps: faults, one for each way in which a row of document 01's table can be met, planted alone and together."""
 
-from itertools import combinations
-
-import checks
 from checks import outside_radius, work_need
-from faults import FAULTS_OF_NETWORKS, TOP, Fault, change_length, length_of
+from faults import FAULTS_OF_NETWORKS, TOP, Fault, alone_and_together, change_length, length_of, with_faults
 from ieee import ONE, SIGN
 from list_format import OMEGA4, OMEGA4_ADJOINT, OMEGA6, WEIGHTED_OMEGA4, WEIGHTED_OMEGA4_ADJOINT, names_of_samples
 from networks import network
@@ -136,13 +133,6 @@ def can_stand_together(faults):
     return (12, "sample 1") not in planted or not planted & NOT_WITHOUT_NODES
 
 
-def shown(kind, inputs, faults):
-    """Is each of the faults present, and the first of them the first that the call meets?"""
-    met = [(check.row, check.place) for check in checks.faults(kind, inputs)]
-    planted = [(fault.row, fault.place) for fault in faults]
-    return met[:1] == planted[:1] and all(fault in met for fault in planted)
-
-
 def drawn_for(random, kind, faults):
     """Inputs in which the faults can be planted. Without nodes, the first sample may have entries and the second one nodes."""
     if any(fault.row == 12 for fault in faults):
@@ -155,27 +145,10 @@ def drawn_for(random, kind, faults):
     return step_inputs(random, kind, own_patterns(random, kind, n, moderate), moderate_tau(random), signal)
 
 
-def with_faults(random, kind, faults):
-    """Inputs of a step that show these faults, which stand in the order of its checks."""
-    for _ in range(10000):
-        inputs = drawn_for(random, kind, faults)
-        for fault in faults:
-            fault.plant(random, inputs)
-        if shown(kind, inputs, faults):
-            return inputs
-    raise ValueError(f"no inputs show {[(fault.row, fault.place) for fault in faults]}")
-
-
 def refused(random, kind, triples):
     """Each fault alone, twice in a sample and six times elsewhere; each pair of faults; and some triples."""
-    faults = FAULTS_OF_STEPS[kind]
-    chosen = [[fault] for fault in faults for _ in range(2 if fault.row in ROWS_OF_PATTERNS else 6)]
-    chosen += combinations(faults, 2)
-    while triples > 0:
-        three = sorted({random.below(len(faults)) for _ in range(3)})
-        if len(three) == 3 and can_stand_together([faults[i] for i in three]):
-            chosen.append([faults[i] for i in three])
-            triples -= 1
-    for some in chosen:
-        if can_stand_together(some):
-            yield with_faults(random, kind, some)
+    def times_alone(fault):
+        return 2 if fault.row in ROWS_OF_PATTERNS else 6
+
+    for some in alone_and_together(random, FAULTS_OF_STEPS[kind], times_alone, triples, can_stand_together):
+        yield with_faults(random, kind, some, drawn_for)

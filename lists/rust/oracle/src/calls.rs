@@ -11,7 +11,7 @@ use semiflow::{
 
 use crate::{
     fields::{answer, push_slice, Fields, Reply},
-    steps,
+    runs, steps,
 };
 
 type Call = fn(&mut Fields) -> Reply;
@@ -29,12 +29,16 @@ pub fn of_kind(kind: u16) -> Option<Call> {
         9 => Some(steps::weighted_omega4),
         10 => Some(steps::weighted_omega4_adjoint),
         11 => Some(steps::omega6),
+        12 => Some(runs::segment_index),
+        13 => Some(runs::evolve),
+        14 => Some(runs::evolve_adjoint),
+        15 => Some(runs::weighted_evolve_adjoint),
         _ => None,
     }
 }
 
 /// The texts of the Rust's refusals and their numbers in document 01's table.
-const NUMBERS: [(&str, u16); 16] = [
+const NUMBERS: [(&str, u16); 23] = [
     ("from_csr_parts: row_ptr.len() must equal n_nodes+1", 1),
     ("from_csr_parts: row_ptr not monotone non-decreasing", 2),
     (
@@ -57,9 +61,16 @@ const NUMBERS: [(&str, u16); 16] = [
     ),
     ("VarCoef adjoint: a(t) not positive/finite", 11),
     ("VarCoefMagnusGraphHeatChernoff: n_nodes must be >= 1", 12),
+    ("snapshots.len() must be in [1, MAX_GRAPH_TRAJ_SEGMENTS]", 13),
+    ("breakpoints.len() == snapshots.len() + 1", 14),
+    ("breakpoints must be strictly increasing", 15),
+    ("evolve_with_traj: n_steps_per_segment must be >= 1", 16),
+    ("evolve_with_traj: traj.breakpoints()[0] must be 0", 17),
+    ("GraphTraj::laplacian_at: t out of trajectory range", 18),
+    ("evolve_with_traj: f0.n_nodes() != traj.snapshot(0).n_nodes()", 10),
 ];
 
-fn refused(error: &SemiflowError) -> Reply {
+pub fn refused(error: &SemiflowError) -> Reply {
     if let SemiflowError::OutOfMagnusRadius { tau, rho_estimate } = error {
         return Reply::Answer(answer(8, &[*tau, *rho_estimate]));
     }

@@ -4,6 +4,7 @@
 
 mod calls;
 mod fields;
+mod runs;
 mod steps;
 
 use std::io::{Read, Write};

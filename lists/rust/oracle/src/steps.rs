@@ -66,7 +66,7 @@ fn samples_in_turn<const SAMPLES: usize>(
 }
 
 /// A network of n nodes for the constructors that refuse one of no nodes. A step does not read it, so one node stands in for none.
-fn graph_of(n: usize) -> Result<Arc<Graph<f64>>, SemiflowError> {
+pub fn graph_of(n: usize) -> Result<Arc<Graph<f64>>, SemiflowError> {
     Ok(Arc::new(Graph::from_edges(n.max(1), Vec::new())?))
 }
 
