@@ -4,7 +4,7 @@ from checks import outside_radius, segment_outside_radius, work_need
 from ieee import SIGN, is_finite, to_bits, to_float
 from list_format import EVOLVE, WEIGHTED_EVOLVE_ADJOINT
 from networks import network
-from random_reals import ZEROS, finite_list, ordinary, signal_list, with_fields
+from random_reals import finite_list, ordinary, signal_list, with_fields
 from step_samples import BOUND_SORTS, WORK_PATTERNS, moderate, positive
 
 MOST_SEGMENTS = 7

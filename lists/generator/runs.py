@@ -3,12 +3,11 @@
 from checks import HALF_PI, lengths_of_steps, whole_bound
 from ieee import ONE, SIGN, to_bits, to_float
 from list_format import EVOLVE, EVOLVE_ADJOINT, SEGMENT_INDEX, WEIGHTED_EVOLVE_ADJOINT
-from random_reals import FINITE_SORTS, INFINITIES, NANS, ZEROS, finite_list, huge, ordinary, signal_list, tiny, with_fields
+from random_reals import FINITE_SORTS, INFINITIES, NANS, ZEROS, huge, ordinary, signal_list, tiny, with_fields
 from ruled_runs import ruled_inputs
-from run_faults import FAULTS_OF_RUNS, lookup_inputs, refused
+from run_faults import FAULTS_OF_RUNS, refused
 from run_samples import (
     MOST_STEPS,
-    adjoint_breakpoints,
     breakpoints_of,
     few_steps,
     growing_weights,

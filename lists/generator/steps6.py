@@ -1,8 +1,9 @@
 """The inputs of the order-6 step (document 01, part 9): the families of the order-4 steps with three samples, and some of its own."""
 
+from itertools import permutations
+
 from formulas import TEN_BY_3
 from ieee import ONE, SIGN, to_bits, to_float
-from itertools import permutations
 from list_format import OMEGA6
 from random_reals import ZEROS, finite_list, signal_list, with_fields
 from step_faults import refused
