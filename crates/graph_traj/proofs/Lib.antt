@@ -1,0 +1,4 @@
+pub mod Order
+pub mod Lookup
+pub mod LookupSound
+pub mod LookupAnswer

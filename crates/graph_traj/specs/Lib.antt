@@ -1,0 +1,4 @@
+pub mod Greatest
+pub mod Lookup
+pub mod TrajectoryChecks
+pub mod LookupAnswer
