@@ -2,3 +2,4 @@ pub mod Order
 pub mod Lookup
 pub mod LookupSound
 pub mod LookupAnswer
+pub mod TrajectorySound

@@ -1,4 +1,5 @@
 pub mod Greatest
 pub mod Lookup
+pub mod Trajectory
 pub mod TrajectoryChecks
 pub mod LookupAnswer
