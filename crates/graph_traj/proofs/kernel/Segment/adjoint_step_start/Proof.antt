@@ -1,4 +1,5 @@
 -- `adjoint_step_start` meets its contract: its operations are those of `adjointStepStart`. Assumes nothing.
+use mathlib.Core.Path.{refl}
 use native.Mathlib.Omega.{arith}
 use borrow.Author.Needs.{needs}
 use Rattle.graph_traj.specs.Times.{adjointStepStart}
@@ -17,7 +18,7 @@ int-to-float-result c = count-exact _ (omega arith)
 
 returns : tie.Need-returns
 unfolding adjointStepStart
-returns c = search needs
+returns c = refl
 
 pub adjoint-step-start-spec : {M : Type 1} → statement M
 adjoint-step-start-spec = tie.close (tie.spec sub-result sub-result-2 int-to-float-result returns)

@@ -1,5 +1,5 @@
 -- `new` meets its contract: it makes the segment of `segmentOf`. Assumes nothing.
-use borrow.Author.Needs.{needs}
+use mathlib.Core.Path.{refl}
 use Rattle.graph_traj.specs.Times.{segmentTau}
 use Rattle.graph_traj.proofs.CountsExact.{count-exact}
 use Rattle.graph_traj.proofs.kernel.Segment.new.Statement.{statement}
@@ -10,7 +10,7 @@ int-to-float-t5 c = count-exact _ (c .before .pre)
 
 returns : tie.Need-returns
 unfolding segmentTau
-returns c = search needs
+returns c = refl
 
 pub new-spec : {M : Type 1} → statement M
 new-spec = tie.close (tie.spec int-to-float-t5 returns)

@@ -1,5 +1,5 @@
 -- `step_start` meets its contract: its operations are those of `stepStart`. Assumes nothing.
-use borrow.Author.Needs.{needs}
+use mathlib.Core.Path.{refl}
 use Rattle.graph_traj.specs.Times.{stepStart}
 use Rattle.graph_traj.proofs.CountsExact.{count-exact}
 use Rattle.graph_traj.proofs.kernel.Segment.step_start.Statement.{statement}
@@ -10,7 +10,7 @@ int-to-float-result c = count-exact _ (c .before .pre)
 
 returns : tie.Need-returns
 unfolding stepStart
-returns c = search needs
+returns c = refl
 
 pub step-start-spec : {M : Type 1} → statement M
 step-start-spec = tie.close (tie.spec int-to-float-result returns)
