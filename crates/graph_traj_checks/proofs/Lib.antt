@@ -1,0 +1,4 @@
+pub mod Each
+pub mod SegmentsRadius
+pub mod RunSound
+pub mod Steps
