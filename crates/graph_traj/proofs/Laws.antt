@@ -10,7 +10,7 @@ use lib.ListN.{length, take, drop, length-take, length-drop}
 use lib.Ieee.{Float}
 use borrow.Author.Tests.{eq-eqb, ne-eqb}
 use Rattle.scratch.specs.Parts.{part}
-use Rattle.graph_traj.specs.Laws.{byLaw, lawList}
+use Rattle.graph_traj.specs.Laws.{lawValues, byLaw, valuesAt, lawList}
 
 module _ (law k m : ℕ) (starts ends sampled : List Float) where
   abbrev PartOf : List Float → List Float
@@ -37,6 +37,13 @@ module _ (law k m : ℕ) (starts ends sampled : List Float) where
       let first : eqb law 0 ≡ false = ne-eqb law 0 n in
       let second : eqb law 1 ≡ false = ne-eqb law 1 o in
       rw (first, second) refl
+
+-- what law 2 samples of segment k makes its law's list the segment's values
+pub law-values : (law k m : ℕ) (f : Float) (starts ends : List Float)
+    → lawList law k m starts ends (lawValues m f (part (k * m) m starts) (part (k * m) m ends))
+    ≡ valuesAt law m f (part (k * m) m starts) (part (k * m) m ends)
+unfolding lawList valuesAt
+law-values law k m f starts ends = refl
 
 -- segment k's list lies within a pool of so many segments
 pub list-within : (k segments m : ℕ) → k < segments → k * m + m ≤ segments * m

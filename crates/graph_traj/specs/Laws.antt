@@ -28,6 +28,10 @@ lawValues m f starts ends = tabulate (λ i. lawValue f (at (ieee binary64) start
 unfoldable pub byLaw : ℕ → List Float → List Float → List Float → List Float
 byLaw law start end sampled = cond (eqb law 0) start (cond (eqb law 1) end sampled)
 
--- that of segment k in pools of lists of m values
+-- the values of a segment whose time is so far on its way from start to end: m values of a sample, or n weights
+unfoldable pub valuesAt : ℕ → ℕ → Float → List Float → List Float → List Float
+valuesAt law m f start end = byLaw law start end (lawValues m f start end)
+
+-- the list that segment k's law names, in pools of lists of m values each
 unfoldable pub lawList : ℕ → ℕ → ℕ → List Float → List Float → List Float → List Float
 lawList law k m starts ends sampled = byLaw law (part (k *ℕ m) m starts) (part (k *ℕ m) m ends) sampled

@@ -24,6 +24,10 @@ open Arithmetic (ieee binary64) using (zero)
 unfoldable pub segmentCountFault : ℕ → Checked
 segmentCountFault segments = refuseIf (eqb segments 0 || ltb 65535 segments) (SegmentCount segments)
 
+-- row 13 of an adjoint run: other than one segment
+unfoldable pub oneSegmentFault : ℕ → Checked
+oneSegmentFault segments = refuseUnequal segments 1 (SegmentCount segments)
+
 -- row 14, of one list: it is not as long as is wanted
 unfoldable pub poolCountFault : ℕ → ℕ → Checked
 poolCountFault count wanted = refuseUnequal count wanted (PoolCount count)
@@ -39,17 +43,13 @@ unfoldable pub breakpointsFault : List Float → Checked
 breakpointsFault breakpoints =
     refuseFirst (notRisingAt breakpoints) (length breakpoints) (λ i. Breakpoint (breakpoint breakpoints i))
 
--- row 18: t is a NaN, or below the first breakpoint, or above the last
-unfoldable pub lookupTimeFault : Float → Float → Float → Checked
-lookupTimeFault first last t = refuseIf (not (le first t && le t last)) (LookupTime t)
-
 -- row 17: the first breakpoint is not 0 (-0 passes, since the comparison is IEEE's)
 unfoldable pub firstBreakpointFault : Float → Checked
 firstBreakpointFault first = refuseIf (not (eq first zero)) (FirstBreakpoint first)
 
--- row 13 of an adjoint run: other than one segment
-unfoldable pub oneSegmentFault : ℕ → Checked
-oneSegmentFault segments = refuseUnequal segments 1 (SegmentCount segments)
+-- row 18: t is a NaN, or below the first breakpoint, or above the last
+unfoldable pub lookupTimeFault : Float → Float → Float → Checked
+lookupTimeFault first last t = refuseIf (not (le first t && le t last)) (LookupTime t)
 
 -- law k is above 2
 abbrev pub unknownLawAt : List ℕ → ℕ → Bool

@@ -25,6 +25,17 @@ pub fn check_segment_count(segments: usize) -> Checked
     }
 }
 
+// Row 13 of an adjoint run: there is one segment.
+pub fn check_one_segment(segments: usize) -> Checked
+    ensures { λ r. ⌜ r ≡ oneSegmentFault segments ⌝ }
+{
+    if segments == 1 {
+        Checked::Accepted
+    } else {
+        Checked::Refused(Refusal::SegmentCount(segments))
+    }
+}
+
 // Row 14, of one list: it is as long as is wanted.
 pub fn check_pool_count(count: usize, wanted: usize) -> Checked
     ensures { λ r. ⌜ r ≡ poolCountFault count wanted ⌝ }
@@ -99,17 +110,6 @@ pub fn check_first_breakpoint(first: f64) -> Checked
         Checked::Accepted
     } else {
         Checked::Refused(Refusal::FirstBreakpoint(first))
-    }
-}
-
-// Row 13 of an adjoint run: there is one segment.
-pub fn check_one_segment(segments: usize) -> Checked
-    ensures { λ r. ⌜ r ≡ oneSegmentFault segments ⌝ }
-{
-    if segments == 1 {
-        Checked::Accepted
-    } else {
-        Checked::Refused(Refusal::SegmentCount(segments))
     }
 }
 
