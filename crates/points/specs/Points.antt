@@ -2,25 +2,53 @@
 use mathlib.Core.List.{List, [], _∷_}
 use Prim.Native.Nat.{ℕ}
 use lib.Ieee.{Float, binary64, ofBits}
+use Rattle.error.specs.Refusals.{Carried, count, real, answerOf}
+use Rattle.error.specs.declared.Checked.{Checked}
+use Rattle.error.specs.declared.Checked.the-variants.{Accepted, Refused}
+use Rattle.graph_traj.specs.Lookup.{segmentAt}
+use Rattle.graph_traj.specs.TrajectoryChecks.{lookupFault}
 use Rattle.square_root.specs.SquareRoot.{squareRoot}
 
--- a point: the root of the value with the first bit pattern is the value with the second
+-- a point; times and values are given by their bit patterns
 pub data Point : Type 0 where
+  -- the root of the first value is the second
   root : ℕ → ℕ → Point
+  -- among the breakpoints 0 1 3 the time lies in the segment, or outside
+  inSegment : ℕ → ℕ → Point
+  outside : ℕ → Point
 
--- what the definition gives at a point
-unfoldable pub computed : Point → Float
-unfolding squareRoot ofBits
-computed (root x r) = squareRoot binary64 (ofBits binary64 x)
+unfoldable pub breakpoints : List Float
+unfolding ofBits
+breakpoints = ofBits binary64 0 ∷ ofBits binary64 0x3FF0_0000_0000_0000 ∷ ofBits binary64 0x4008_0000_0000_0000 ∷ []
+
+-- an answer as document 01's table has it: the number and the values of a refusal, else what is given
+unfoldable pub answer : Checked → List Carried → List Carried
+answer Accepted given = given
+answer (Refused r) given = answerOf (Refused r)
+
+-- what the lookup answers
+unfoldable pub lookup : ℕ → List Carried
+unfolding ofBits breakpoints
+lookup t = answer (lookupFault 2 breakpoints (ofBits binary64 t)) (count (segmentAt 2 breakpoints (ofBits binary64 t)) ∷ [])
+
+-- what the definitions give at a point
+unfoldable pub computed : Point → List Carried
+unfolding squareRoot ofBits lookup
+computed (root x r) = real (squareRoot binary64 (ofBits binary64 x)) ∷ []
+computed (inSegment t i) = lookup t
+computed (outside t) = lookup t
 
 -- what it must be
-unfoldable pub expected : Point → Float
+unfoldable pub expected : Point → List Carried
 unfolding ofBits
-expected (root x r) = ofBits binary64 r
+expected (root x r) = real (ofBits binary64 r) ∷ []
+expected (inSegment t i) = count i ∷ []
+expected (outside t) = count 18 ∷ real (ofBits binary64 t) ∷ []
 
+-- the table
 unfoldable pub points : List Point
 points =
-    -- ★ of 4 it is 2
+    -- ★ the root of 4 is 2
     root 0x4010_0000_0000_0000 0x4000_0000_0000_0000
     -- ★ of 2
     ∷ root 0x4000_0000_0000_0000 0x3FF6_A09E_667F_3BCD
@@ -45,4 +73,14 @@ points =
     -- of the positive infinity and of a NaN
     ∷ root 0x7FF0_0000_0000_0000 0x7FF0_0000_0000_0000
     ∷ root 0x7FF8_0000_0000_0001 0x7FF8_0000_0000_0000
+    -- ★ the times 1 and 3 lie in segment 1
+    ∷ inSegment 0x3FF0_0000_0000_0000 1
+    ∷ inSegment 0x4008_0000_0000_0000 1
+    -- ★ 3.5 lies outside
+    ∷ outside 0x400C_0000_0000_0000
+    -- the time 0, as +0 and as -0, lies in segment 0
+    ∷ inSegment 0x0000_0000_0000_0000 0
+    ∷ inSegment 0x8000_0000_0000_0000 0
+    -- a NaN lies outside
+    ∷ outside 0x7FF8_0000_0000_0000
     ∷ []
