@@ -9,7 +9,7 @@ use native.Mathlib.Nat.{not-suc-le-zero, eq-or-lt-of-le, le-of-suc-le-suc}
 use native.Mathlib.Numerals.{add-one}
 use native.Mathlib.Omega.{arith}
 use lib.Ieee.{Float, lt, le}
-use Rattle.graph_traj.specs.Greatest.{greatest, IsGreatest, greatest-is, greatest-only}
+use Rattle.graph_traj.specs.Greatest.{IsGreatest, greatest-is, greatest-only}
 use Rattle.graph_traj.specs.Lookup.{breakpoint, segmentAt, Breakpoints, Inside, Holds}
 use Rattle.graph_traj.proofs.Order.{less-then-at-most, less-not-at-most, less-at-most, not-at-most}
 

@@ -1,6 +1,6 @@
 -- What the checks of the lookup accept: rows 13 to 15 exactly the `Breakpoints` of so many segments, row 18 exactly a time `Inside`
 -- them. Assumes nothing.
-use mathlib.Core.Path.{_≡_, refl, sym, ap, _∙_}
+use mathlib.Core.Path.{_≡_, refl, ap}
 use mathlib.Core.Logic.{_↔_, ⊎-elim}
 use mathlib.Core.Bool.{Bool, true, false, not, _&&_, _||_, and-eq-true-iff, true≢false, false≢true}
 use mathlib.Core.List.{List}
@@ -9,10 +9,11 @@ use native.Mathlib.Nat.{eq-zero-or-pos}
 use native.Mathlib.Omega.{arith}
 use lib.Dec.{eqb, ltb}
 use lib.ListN.{length}
-use lib.Ieee.{Float, lt, le}
+use lib.Ieee.{Float, lt}
 use lib.Ieee.Scale.{finite}
 use borrow.Author.Tests.{eqb-false, ne-eqb, ltb-false, lt-ltb, le-ltb, not-false}
-use Rattle.error.specs.declared.Checked.{Checked}
+use Rattle.error.specs.Checks.{refuseIf}
+use Rattle.error.specs.declared.Refusal.{Refusal}
 use Rattle.error.specs.declared.Checked.the-variants.{Accepted}
 use Rattle.error.proofs.Checks.{refuseIf-accepted, refuseUnequal-accepted, next-accepted}
 use Rattle.graph.proofs.First.{refuseFirst-accepted}
@@ -25,17 +26,22 @@ neither : (a b : Bool) → ((a || b) ≡ false) ↔ ((a ≡ false) × (b ≡ fal
 neither true b = (λ h. absurd (true≢false h), λ p. absurd (true≢false (p .0)))
 neither false b = (λ h. (refl, h), λ p. p .1)
 
-pub segment-count-accepted : (segments : ℕ) → (segmentCountFault segments ≡ Accepted) ↔ ((0 < segments) × (segments ≤ 65535))
-unfolding segmentCountFault
-segment-count-accepted segments = (
+-- a count that is refused where it is 0 or over 65,535 (rows 13 and 16)
+pub count-accepted : (count : ℕ) (r : Refusal)
+    → (refuseIf (eqb count 0 || ltb 65535 count) r ≡ Accepted) ↔ ((0 < count) × (count ≤ 65535))
+count-accepted count r = (
   λ h.
       let g = neither _ _ .0 (refuseIf-accepted _ _ .0 h) in
-      let some = eqb-false segments 0 (g .0) in
-      (omega arith, ltb-false 65535 segments (g .1)),
+      let some = eqb-false count 0 (g .0) in
+      (omega arith, ltb-false 65535 count (g .1)),
   λ p.
       refuseIf-accepted _ _ .1
-      (neither _ _ .1 (ne-eqb segments 0 (λ e. omega (arith, p .0)), le-ltb 65535 segments (p .1))),
+      (neither _ _ .1 (ne-eqb count 0 (λ e. omega (arith, p .0)), le-ltb 65535 count (p .1))),
 )
+
+pub segment-count-accepted : (segments : ℕ) → (segmentCountFault segments ≡ Accepted) ↔ ((0 < segments) × (segments ≤ 65535))
+unfolding segmentCountFault
+segment-count-accepted segments = count-accepted segments _
 
 pub pool-count-accepted : (count wanted : ℕ) → (poolCountFault count wanted ≡ Accepted) ↔ (count ≡ wanted)
 unfolding poolCountFault

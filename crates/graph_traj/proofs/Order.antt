@@ -3,15 +3,15 @@
 use mathlib.Core.Path.{_≡_, refl, sym, ap, _∙_, subst}
 use mathlib.Core.Logic.{_⊎_, inl, inr, ⊎-elim}
 use mathlib.Core.Bool.{Bool, Bool·beq, true, false, not, _&&_, _||_, true≢false, false≢true}
-use Prim.Native.Nat.{ℕ, _+_, _*_, _≤_, _<_}
+use Prim.Native.Nat.{ℕ, _+_, _*_, _<_}
 use native.Mathlib.Nat.{mul-pos, mul-right-comm, mul-lt-mul-of-pos-right, lt-of-mul-lt-mul-right, eq-zero-or-pos, zero-mul}
 use native.Mathlib.Omega.{arith}
 use lib.Dec.{T, ltb, eqb, ltb→lt, lt→ltb, eqb→eq}
-use lib.Ieee.{Float, nan, inf, fin, up, down, below, level, lt, eq, le, isNan}
-use lib.Ieee.Fits.{down-pos, and-l, and-r, and-i}
+use lib.Ieee.{Float, nan, inf, fin, up, down, below, level, lt, eq, le}
+use lib.Ieee.Fits.{down-pos, and-l, and-r}
 use lib.Ieee.Positive.{first-pos}
 use lib.Ieee.Scale.{finite}
-use borrow.Author.Tests.{ltb-true, ltb-false, eqb-true, eqb-false, lt-ltb, le-ltb, eq-eqb}
+use borrow.Author.Tests.{ltb-false, eqb-false, lt-ltb, eq-eqb}
 use Rattle.graph.proofs.Less.{less-irreflexive, less-transitive}
 
 -- ---- tests that hold

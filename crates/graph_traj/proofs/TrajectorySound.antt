@@ -1,15 +1,14 @@
 -- What the checks of a trajectory accept: each row exactly what it should, and so the whole check exactly an `AcceptedTrajectory`, and
 -- that of an adjoint run exactly an `AcceptedAdjointTrajectory`. The runs use these, and not the checks' definitions. Assumes nothing.
-use mathlib.Core.Path.{_≡_, sym, ap, _∙_}
+use mathlib.Core.Path.{_≡_, ap}
 use mathlib.Core.Logic.{_↔_}
 use mathlib.Core.Bool.{not}
 use mathlib.Core.List.{List}
-use Prim.Native.Nat.{ℕ, _+_, _*_, _≤_, _<_}
+use Prim.Native.Nat.{ℕ, _+_, _≤_, _<_}
 use native.Mathlib.Omega.{arith}
 use lib.ListN.{length, getD}
 use lib.Ieee.{Float}
 use borrow.Author.Tests.{ltb-false, le-ltb, not-false}
-use Rattle.error.specs.declared.Checked.{Checked}
 use Rattle.error.specs.declared.Checked.the-variants.{Accepted}
 use Rattle.error.proofs.Checks.{refuseIf-accepted, refuseUnequal-accepted, next-accepted}
 use Rattle.graph.specs.Pattern.{Pattern}

@@ -9,7 +9,7 @@ use native.Mathlib.Omega.{arith}
 use Rattle.error.specs.declared.Refusal.{Refusal}
 use Rattle.error.specs.declared.Checked.{Checked}
 use Rattle.error.specs.declared.Checked.the-variants.{Accepted, Refused}
-use Rattle.error.proofs.Checks.{next-accepted, next-refused, refused-here, accepted-then}
+use Rattle.error.proofs.Checks.{next-accepted, next-refused, accepted-then}
 use Rattle.graph_traj_checks.specs.Each.{each}
 
 module _ (check : ℕ → Checked) where

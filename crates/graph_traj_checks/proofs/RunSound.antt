@@ -1,25 +1,24 @@
 -- What the checks of the runs accept: each row exactly what it should, and so the whole checks exactly an `AcceptedRun`, an
 -- `AcceptedAdjointRun` and an `AcceptedWeightedAdjointRun`. The runs use these, and not the checks' definitions. Assumes nothing.
-use mathlib.Core.Path.{_≡_, refl, sym, ap, _∙_}
+use mathlib.Core.Path.{_≡_, refl}
 use mathlib.Core.Logic.{_↔_}
-use mathlib.Core.Bool.{Bool, true, false, cond, _||_, true≢false}
+use mathlib.Core.Bool.{Bool, true, false, cond}
 use mathlib.Core.List.{List}
 use Prim.Native.Nat.{ℕ, _≤_, _<_}
 use native.Mathlib.Omega.{arith}
 use lib.Dec.{eqb}
 use lib.Ieee.{Float}
-use borrow.Author.Tests.{eqb-true, eqb-false, ne-eqb, ltb-false, le-ltb}
-use Rattle.error.specs.Checks.{next}
+use borrow.Author.Tests.{eqb-true, eqb-false, ltb-false, le-ltb}
 use Rattle.error.specs.declared.Checked.{Checked}
 use Rattle.error.specs.declared.Checked.the-variants.{Accepted}
-use Rattle.error.proofs.Checks.{refuseIf-accepted, next-accepted, length-accepted}
-use Rattle.graph_traj.specs.Trajectory.{Trajectory, AcceptedTrajectory, FromZero, AcceptedAdjointTrajectory}
-use Rattle.graph_traj.specs.TrajectoryChecks.{trajectoryFault, adjointTrajectoryFault}
+use Rattle.error.proofs.Checks.{refuseIf-accepted, length-accepted}
+use Rattle.graph_traj.specs.Trajectory.{Trajectory}
+use Rattle.graph_traj.proofs.LookupSound.{count-accepted}
 use Rattle.graph_traj.proofs.TrajectorySound.{first-breakpoint-accepted, trajectory-accepted, adjoint-trajectory-accepted}
-use Rattle.magnus_graph_helpers.specs.AcceptedStep.{Positive, NotNegative, WithinRadius}
+use Rattle.magnus_graph_helpers.specs.AcceptedStep.{Positive, WithinRadius}
 use Rattle.magnus_graph_helpers.specs.StepChecks.{weightedBound}
 use Rattle.magnus_graph_helpers.proofs.StepSound.{bound-accepted, radius-accepted, room-accepted, weights-length-accepted}
-use Rattle.magnus_graph_helpers.proofs.StepSound.{weighted-bounds-accepted, step-length-accepted}
+use Rattle.magnus_graph_helpers.proofs.StepSound.{weighted-bounds-accepted, step-length-accepted, _then_}
 use Rattle.graph_traj_checks.specs.RunChecks.{stepCountFault, adjointStepCountFault, tauOf, segmentsRadiusFault}
 use Rattle.graph_traj_checks.specs.RunChecks.{runNeed, weightedRunNeed, signalsFault, runLengthsFault}
 use Rattle.graph_traj_checks.specs.RunChecks.{weightedRunLengthsFault, runFault, adjointStepsFault, adjointRunFault}
@@ -32,19 +31,7 @@ use Rattle.graph_traj_checks.proofs.Each.{each-accepted}
 
 pub step-count-accepted : (steps : ℕ) → (stepCountFault steps ≡ Accepted) ↔ ((0 < steps) × (steps ≤ 65535))
 unfolding stepCountFault
-step-count-accepted steps = (
-  λ h.
-      let g = neither _ _ .0 (refuseIf-accepted _ _ .0 h) in
-      let some = eqb-false steps 0 (g .0) in
-      (omega arith, ltb-false 65535 steps (g .1)),
-  λ p.
-      refuseIf-accepted _ _ .1
-      (neither _ _ .1 (ne-eqb steps 0 (λ e. omega (arith, p .0)), le-ltb 65535 steps (p .1))),
-)
-  where
-    neither : (a b : Bool) → ((a || b) ≡ false) ↔ ((a ≡ false) × (b ≡ false))
-    neither true b = (λ h. absurd (true≢false h), λ p. absurd (true≢false (p .0)))
-    neither false b = (λ h. (refl, h), λ p. p .1)
+step-count-accepted steps = count-accepted steps _
 
 pub adjoint-step-count-accepted : (steps : ℕ) → (adjointStepCountFault steps ≡ Accepted) ↔ (steps ≤ 65535)
 unfolding adjointStepCountFault
@@ -63,19 +50,6 @@ segments-radius-accepted checked bound steps breakpoints segments = (
 )
 
 -- ---- the groups of rows
-
-infixr 20 _then_
--- a chain accepts exactly what its checks accept
-_then_ : {a b : Checked} {P Q : Type 0}
-    → ((a ≡ Accepted) ↔ P)
-    → ((b ≡ Accepted) ↔ Q)
-    → (next a b ≡ Accepted) ↔ (P × Q)
-_then_ p q = (
-  λ h.
-      let g = next-accepted _ _ .0 h in
-      (p .0 (g .0), q .0 (g .1)),
-  λ h. next-accepted _ _ .1 (p .1 (h .0), q .1 (h .1)),
-)
 
 pub signals-accepted : (n signal output : ℕ) → (signalsFault n signal output ≡ Accepted) ↔ Signals n signal output
 unfolding signalsFault

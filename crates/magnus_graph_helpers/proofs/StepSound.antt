@@ -106,7 +106,7 @@ sample-weights-accepted weights = (
 
 infixr 20 _then_
 -- a chain accepts exactly what its checks accept
-_then_ : {a b : Checked} {P Q : Type 0}
+pub _then_ : {a b : Checked} {P Q : Type 0}
     → ((a ≡ Accepted) ↔ P)
     → ((b ≡ Accepted) ↔ Q)
     → (next a b ≡ Accepted) ↔ (P × Q)

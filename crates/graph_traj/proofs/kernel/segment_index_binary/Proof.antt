@@ -1,9 +1,7 @@
 -- `segment_index_binary` meets its contract. The invariant is `Between`: breakpoint lo is at most t, and no segment from hi on begins
 -- at t or before it. The two come closer with each turn, so the measure is their distance. Assumes nothing.
-use Prim.Native.Nat.{_-_, _+_, _/_, _<_}
+use Prim.Native.Nat.{_-_}
 use native.Mathlib.Omega.{arith}
-use lib.ListN.{length}
-use borrow.Author.Needs.{needs}
 use Rattle.graph_traj.proofs.Lookup.{Between, between-all, between-later, between-earlier, between-found}
 use Rattle.graph_traj.proofs.kernel.segment_index_binary.Statement.{statement}
 use Rattle.graph_traj.proofs.kernel.segment_index_binary.Tie as tie
