@@ -16,3 +16,4 @@ pub mod PlainSum6
 pub mod VanishingCommutator
 -- The constants of order 6.
 pub mod Constants6
+pub mod PlainRun

@@ -7,3 +7,4 @@ pub mod Formed
 pub mod FormedOmega6
 pub mod Ring
 pub mod Published
+pub mod Run
