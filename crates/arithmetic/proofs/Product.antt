@@ -8,14 +8,14 @@ use native.Mathlib.Numerals.{add-one}
 use native.Mathlib.Omega.{arith}
 use lib.ListN.{length, getD}
 use Rattle.arithmetic.specs.Vector.{tabulate}
-use Rattle.arithmetic.specs.Arithmetic.{Arithmetic, at}
+use Rattle.arithmetic.specs.Arithmetic.{Arithmetic, at, scaled, subtracted}
 use Rattle.arithmetic.specs.Product.{sumTo, entries, plusScaled}
 use Rattle.arithmetic.proofs.Tabulate.{length-tabulate, getD-tabulate, tabulate-same}
 
 module _ {K : Type 0} (A : Arithmetic K) where
-  open Arithmetic A using (zero, past, _+_, _*_)
+  open Arithmetic A using (zero, past, _+_, _-_, _*_)
 
-  infixl 60 _+_
+  infixl 60 _+_ _-_
   infixl 70 _*_
   -- one term more
   pub sum-next : (f : ℕ → K) (m : ℕ) → sumTo A f (m +ℕ 1) ≡ sumTo A f m + f m
@@ -52,3 +52,12 @@ module _ {K : Type 0} (A : Arithmetic K) where
   pub length-plus-scaled : (n : ℕ) (s : List K) (alpha : K) (v : List K) → length (plusScaled A n s alpha v) ≡ n
   unfolding plusScaled
   length-plus-scaled n s alpha v = length-tabulate _ n
+
+  -- a multiple of a difference, and a difference from a multiple, each in one walk
+  pub scaled-difference-walk : (n : ℕ) (s : K) (x y : List K)
+      → tabulate (λ i. s * (at A x i - at A y i)) n ≡ scaled A n s (subtracted A n x y)
+  scaled-difference-walk n s x y = tabulate-same _ _ n (λ i h. simp at-tabulate)
+
+  pub scaled-less-walk : (n : ℕ) (s : K) (x y : List K)
+      → tabulate (λ i. s * at A x i - at A y i) n ≡ subtracted A n (scaled A n s x) y
+  scaled-less-walk n s x y = tabulate-same _ _ n (λ i h. simp at-tabulate)

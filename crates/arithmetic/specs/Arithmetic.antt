@@ -66,3 +66,10 @@ module _ {K : Type 0} (A : Arithmetic K) where
   -- x times y, at each of n places
   abbrev pub multiplied : ℕ → List K → List K → List K
   multiplied n = vectors n ._*_
+
+  -- x plus y and x less y, at each of n places
+  abbrev pub added : ℕ → List K → List K → List K
+  added n = vectors n ._+_
+
+  abbrev pub subtracted : ℕ → List K → List K → List K
+  subtracted n = vectors n ._-_

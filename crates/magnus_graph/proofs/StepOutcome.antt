@@ -2,7 +2,6 @@
 use mathlib.Core.Path.{_≡_, sym, ap, _∙_, subst}
 use mathlib.Core.List.{List}
 use Prim.Native.Nat.{ℕ, _*_, _≤_}
-use native.Mathlib.Omega.{arith}
 use lib.Dec.{T}
 use lib.ListN.{length}
 use lib.Ieee.{Float, binary64, fits}
@@ -23,7 +22,7 @@ use Rattle.magnus.proofs.PlainSum.{samples-plain-sum}
 use Rattle.magnus_graph.specs.Omega4.{sqrt3Over12, expOmega4}
 use Rattle.magnus_graph_helpers.specs.AcceptedStep.{StepInputs}
 use Rattle.magnus_graph.specs.StepOutcome.{StepInput, stepAnswer, Stepped}
-use Rattle.magnus_graph_helpers.proofs.StepSound.{step-accepted}
+use Rattle.magnus_graph_helpers.proofs.StepSound.{refused-not-accepted, step-accepted}
 
 -- a Laplacian on n nodes, for a kernel that counts the nodes by the signal's length
 pub valued : (n l : ℕ) {starts cols : List ℕ} {vals : List Float} → l ≡ n → Laplacian n starts cols vals → ValuedPattern l starts cols vals
@@ -33,15 +32,12 @@ valued n l {starts} {cols} {vals} p h =
 module _ (sign : Float) (s : StepInput) {check : Checked} (made : check ≡ stepAnswer sign s) where
   -- the check refused
   pub step-refused : {r : Refusal} → check ≡ Refused r → Stepped sign s check (s .output) (s .work)
-  step-refused {r} p = record {
+  step-refused p = record {
     answers = answers made;
     output-is = left-unchanged _ _ (answers made) p;
     work-is = left-unchanged _ _ (answers made) p;
-    plain = λ a. absurd (not-both (sym p ∙ made ∙ a));
+    plain = λ a. absurd (refused-not-accepted made p a);
   }
-    where
-      not-both : Refused r ≡ Accepted → ⊥
-      not-both e = let z : _≡_ {A = ℕ} 0 1 = cc in omega arith
 
   -- the check accepted
   module _ (accepted : check ≡ Accepted) where

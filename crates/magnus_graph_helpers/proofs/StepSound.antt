@@ -1,6 +1,6 @@
 -- What the checks of a step accept: each row exactly what it should, and so the whole check of an unweighted step exactly an
--- `AcceptedStep`, and that of a weighted one exactly an `AcceptedWeightedStep`. The kernels use these, and not the checks'
--- definitions. Assumes nothing.
+-- `AcceptedStep`, that of a weighted one exactly an `AcceptedWeightedStep`, and that of one of order 6 exactly an
+-- `AcceptedStep6`. The kernels use these, and not the checks' definitions. Assumes nothing.
 use mathlib.Core.Path.{_≡_, refl, sym, ap, _∙_}
 use mathlib.Core.Logic.{_↔_}
 use mathlib.Core.Bool.{Bool, true, false, not, _&&_, _||_, and-eq-true-iff, true≢false, false≢true}
@@ -12,8 +12,9 @@ use lib.Ieee.{Float, nan, ofBits}
 use lib.Ieee.Scale.{finite}
 use borrow.Author.Tests.{ltb-false, le-ltb, eqb-true, eqb-false, eq-eqb, ne-eqb, not-false}
 use Rattle.error.specs.Checks.{next}
+use Rattle.error.specs.declared.Refusal.{Refusal}
 use Rattle.error.specs.declared.Checked.{Checked}
-use Rattle.error.specs.declared.Checked.the-variants.{Accepted}
+use Rattle.error.specs.declared.Checked.the-variants.{Accepted, Refused}
 use Rattle.error.proofs.Checks.{refuseIf-accepted, next-accepted, length-accepted}
 use Rattle.graph.specs.Pattern.{Laplacian}
 use Rattle.graph.proofs.First.{refuseFirst-accepted}
@@ -22,8 +23,9 @@ use Rattle.magnus_graph_helpers.specs.StepChecks.{Sample, boundFault, no
 use Rattle.magnus_graph_helpers.specs.StepChecks.{weightsLengthFault, roomFault, sampleWeightsFault, sampleFault}
 use Rattle.magnus_graph_helpers.specs.StepChecks.{samplesFault, weightedBoundsFault, stepLengthFault, lengthsFault}
 use Rattle.magnus_graph_helpers.specs.StepChecks.{weightFault, stepFault, weightedStepFault}
+use Rattle.magnus_graph_helpers.specs.StepChecks.{samples6Fault, lengths6Fault, step6Fault}
 use Rattle.magnus_graph_helpers.specs.AcceptedStep.{Positive, NotNegative, WithinRadius, StepInputs}
-use Rattle.magnus_graph_helpers.specs.AcceptedStep.{AcceptedStep, AcceptedWeightedStep}
+use Rattle.magnus_graph_helpers.specs.AcceptedStep.{AcceptedStep, AcceptedWeightedStep, AcceptedStep6}
 use Rattle.magnus_graph_helpers.proofs.Positive.{positive-accepted}
 
 -- ---- the rows of the table
@@ -124,6 +126,14 @@ pub samples-accepted : (first second : Sample)
 unfolding samplesFault
 samples-accepted first second = sample-accepted first then sample-accepted second
 
+pub samples6-accepted : (first second third : Sample)
+    → (samples6Fault first second third ≡ Accepted)
+    ↔ ((Laplacian (first .nodes) (first .starts) (first .cols) (first .vals)
+    × Laplacian (second .nodes) (second .starts) (second .cols) (second .vals))
+    × Laplacian (third .nodes) (third .starts) (third .cols) (third .vals))
+unfolding samples6Fault
+samples6-accepted first second third = samples-accepted first second then sample-accepted third
+
 pub weighted-bounds-accepted : (bound rootBound : Float) (n : ℕ)
     → (weightedBoundsFault bound rootBound n ≡ Accepted) ↔ (Positive bound × (Positive rootBound × (0 < n)))
 unfolding weightedBoundsFault
@@ -141,12 +151,26 @@ unfolding lengthsFault
 lengths-accepted n second signal output =
     length-accepted second n then length-accepted signal n then length-accepted output n
 
+pub lengths6-accepted : (n second third signal output : ℕ)
+    → (lengths6Fault n second third signal output ≡ Accepted)
+    ↔ ((second ≡ n) × ((third ≡ n) × ((signal ≡ n) × (output ≡ n))))
+unfolding lengths6Fault
+lengths6-accepted n second third signal output = length-accepted second n then lengths-accepted n third signal output
+
 pub weights-accepted : (weights1 weights2 : List Float)
     → (weightFault weights1 weights2 ≡ Accepted) ↔ (AllPositive weights1 × AllPositive weights2)
 unfolding weightFault
 weights-accepted weights1 weights2 = sample-weights-accepted weights1 then sample-weights-accepted weights2
 
 -- ---- the whole checks
+
+-- a step that was refused is not accepted
+pub refused-not-accepted : {check fault : Checked} {r : Refusal}
+    → check ≡ fault
+    → check ≡ Refused r
+    → fault ≡ Accepted
+    → ⊥
+refused-not-accepted made p a = let z : _≡_ {A = ℕ} 0 1 = cc in omega arith
 
 -- the samples were checked, and accepted: there are at most 4,096 nodes
 pub few-nodes : {check : Checked} (first second : Sample)
@@ -155,7 +179,14 @@ pub few-nodes : {check : Checked} (first second : Sample)
     → first .nodes ≤ 4096
 few-nodes first second e p = samples-accepted first second .0 (sym e ∙ p) .0 .pattern .rows .few-rows
 
--- what the two kinds of step have in common, from what the groups of rows accept
+pub few-nodes6 : {check : Checked} (first second third : Sample)
+    → check ≡ samples6Fault first second third
+    → check ≡ Accepted
+    → first .nodes ≤ 4096
+few-nodes6 first second third e p =
+    samples6-accepted first second third .0 (sym e ∙ p) .0 .0 .pattern .rows .few-rows
+
+-- what the kinds of step have in common, from what the groups of rows accept
 module _ (first second : Sample) (τ bound : Float) (checked : Bool) (signal output work need : ℕ) where
   abbrev Groups : Type 0
   Groups =
@@ -257,4 +288,38 @@ module _ (first second : Sample) (τ bound rootBound : Float) (checked : Bool) (
             let weights : AllPositive weights1 × AllPositive weights2 =
             (a .of-first .positive, a .of-second .positive) in
             chain .1 (g .0, ((a .spectral-bound, nodes), (g .1, (g .2, (counts, (g .3, weights)))))),
+      )
+
+module _ (first second third : Sample) (τ bound : Float) (checked : Bool) (signal output work : ℕ) where
+  pub step6-accepted :
+      (step6Fault first second third τ bound checked signal output work ≡ Accepted)
+      ↔ AcceptedStep6 first second third τ bound checked signal output work
+  unfolding step6Fault
+  step6-accepted =
+      let n = first .nodes in
+      let chain =
+      samples6-accepted first second third
+      then bound-accepted bound
+      then step-length-accepted τ bound checked
+      then lengths6-accepted n (second .nodes) (third .nodes) signal output
+      then room-accepted work (22 * n) in
+      let common = inputs-of-groups first second τ bound checked signal output work (22 * n) in (
+        λ h.
+            let samples = chain .0 h in
+            let spectral = samples .1 in
+            let step = spectral .1 in
+            let lengths = step .1 in
+            let same = lengths .0 .1 .0 in
+            record {
+              inputs = common .0 (samples .0 .0, step .0, (lengths .0 .0, lengths .0 .1 .1), lengths .1);
+              spectral-bound = spectral .0;
+              laplacian3 = rw same at (samples .0 .1);
+              same-nodes3 = same;
+            },
+        λ a.
+            let g = common .1 (a .inputs) in
+            chain .1 (
+              (g .0, rw (a .same-nodes3) (a .laplacian3)),
+              (a .spectral-bound, (g .1, ((g .2 .0, (a .same-nodes3, g .2 .1)), g .3))),
+            ),
       )

@@ -24,7 +24,7 @@ pub record NotNegative (τ : Float) : Type 0 where
 pub record WithinRadius (checked : Bool) (τ bound : Float) : Type 0 where
   pub below-half-pi : checked ≡ true → le halfPi (mul binary64 bound τ) ≡ false
 
--- what the unweighted and the weighted step have in common; the bound is row 8's, the need that of the work slice
+-- what the steps have in common; the bound is row 8's, the need that of the work slice
 pub record StepInputs (first second : Sample) (τ bound : Float) (checked : Bool) (signal output work need : ℕ) : Type 0 where
   -- both samples are Laplacians on the same nodes (rows 6 and 1 to 5, row 10)
   pub laplacian1 : Laplacian (first .nodes) (first .starts) (first .cols) (first .vals)
@@ -57,3 +57,10 @@ pub record AcceptedWeightedStep (first second : Sample) (τ bound rootBound : Fl
   pub some-nodes : 0 < first .nodes
   pub of-first : Weights (first .nodes) weights1
   pub of-second : Weights (first .nodes) weights2
+
+-- an accepted step of order 6: its third sample is a Laplacian on the same nodes too
+pub record AcceptedStep6 (first second third : Sample) (τ bound : Float) (checked : Bool) (signal output work : ℕ) : Type 0 where
+  pub inputs : StepInputs first second τ bound checked signal output work (22 * first .nodes)
+  pub spectral-bound : Positive bound
+  pub laplacian3 : Laplacian (first .nodes) (third .starts) (third .cols) (third .vals)
+  pub same-nodes3 : third .nodes ≡ first .nodes

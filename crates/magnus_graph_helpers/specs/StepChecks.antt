@@ -1,5 +1,5 @@
--- The checks of the order-4 steps, forward and adjoint, unweighted and weighted: rows 7 to 12 of document 01's table, each
--- over all inputs, and the order of all rows that a step can answer. Assumes nothing.
+-- The checks of the steps, of order 4 (forward and adjoint, unweighted and weighted) and of order 6: rows 7 to 12 of
+-- document 01's table, each over all inputs, and the order of all rows that a step can answer. Assumes nothing.
 use mathlib.Core.Bool.{Bool, not, _&&_, _||_}
 use mathlib.Core.List.{List}
 use Prim.Native.Nat.{ℕ, max, _*_ as _*ℕ_}
@@ -84,6 +84,10 @@ sampleFault s = csrFault (s .nodes) (s .starts) (s .cols) (s .vals)
 unfoldable pub samplesFault : Sample → Sample → Checked
 samplesFault first second = next (sampleFault first) (sampleFault second)
 
+-- the three samples of order 6, each wholly before the next
+unfoldable pub samples6Fault : Sample → Sample → Sample → Checked
+samples6Fault first second third = next (samplesFault first second) (sampleFault third)
+
 -- 9 for the spectral bound, 9 for the root bound, 12
 unfoldable pub weightedBoundsFault : Float → Float → ℕ → Checked
 weightedBoundsFault bound rootBound n = next (boundFault bound) (next (boundFault rootBound) (noNodesFault n))
@@ -95,6 +99,10 @@ stepLengthFault τ bound checked = next (tauFault τ) (radiusFault checked τ bo
 -- 10 for the second sample's n, the signal and the output
 unfoldable pub lengthsFault : ℕ → ℕ → ℕ → ℕ → Checked
 lengthsFault n second signal output = next (lengthFault second n) (next (lengthFault signal n) (lengthFault output n))
+
+-- 10 for the second sample's n, the third sample's n, the signal and the output
+unfoldable pub lengths6Fault : ℕ → ℕ → ℕ → ℕ → ℕ → Checked
+lengths6Fault n second third signal output = next (lengthFault second n) (lengthsFault n third signal output)
 
 -- 11, the first sample's weights wholly before the second's
 unfoldable pub weightFault : List Float → List Float → Checked
@@ -121,3 +129,12 @@ weightedStepFault first second τ bound rootBound checked signal output weights1
     (next (weightsLengthFault (first .nodes) (length weights1) (length weights2))
     (next (roomFault work (9 *ℕ first .nodes))
     (weightFault weights1 weights2))))))
+
+-- A step of order 6: the samples, 9, 7 and 8, then 10, last of it the work slice, whose need is 22n.
+unfoldable pub step6Fault : Sample → Sample → Sample → Float → Float → Bool → ℕ → ℕ → ℕ → Checked
+step6Fault first second third τ bound checked signal output work =
+    next (samples6Fault first second third)
+    (next (boundFault bound)
+    (next (stepLengthFault τ bound checked)
+    (next (lengths6Fault (first .nodes) (second .nodes) (third .nodes) signal output)
+    (roomFault work (22 *ℕ first .nodes)))))

@@ -1,4 +1,4 @@
--- `magnus_graph::check::all_positive` meets its contract. The loop's invariant: the answer so far is that of the weights
+-- `magnus_graph_helpers::check::all_positive` meets its contract. The loop's invariant: the answer so far is that of the weights
 -- before place k. Assumes nothing.
 use mathlib.Core.Path.{_≡_}
 use mathlib.Core.Bool.{Bool, not}

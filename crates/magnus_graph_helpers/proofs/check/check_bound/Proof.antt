@@ -1,4 +1,4 @@
--- `magnus_graph::check::check_bound` meets its contract: it makes the test of `boundFault`. Assumes nothing.
+-- `magnus_graph_helpers::check::check_bound` meets its contract: it makes the test of `boundFault`. Assumes nothing.
 use mathlib.Core.Path.{sym, _∙_}
 use borrow.Author.Needs.{needs}
 use borrow.Author.Tests.{not-true, not-false}

@@ -1,4 +1,4 @@
--- `magnus_graph::check::check_nodes` meets its contract: it makes the test of `noNodesFault`. Assumes nothing.
+-- `magnus_graph_helpers::check::check_nodes` meets its contract: it makes the test of `noNodesFault`. Assumes nothing.
 use borrow.Author.Tests.{eq-eqb, ne-eqb}
 use Rattle.error.proofs.Checks.{refuses, accepts}
 use Rattle.magnus_graph_helpers.specs.StepChecks.{noNodesFault}

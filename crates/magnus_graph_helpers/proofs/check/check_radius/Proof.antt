@@ -1,4 +1,4 @@
--- `magnus_graph::check::check_radius` meets its contract: it makes the test of `radiusFault`. Assumes nothing.
+-- `magnus_graph_helpers::check::check_radius` meets its contract: it makes the test of `radiusFault`. Assumes nothing.
 use Rattle.error.proofs.Checks.{refuses, accepts}
 use Rattle.magnus_graph_helpers.specs.StepChecks.{radiusFault}
 use Rattle.magnus_graph_helpers.proofs.check.check_radius.Statement.{statement}

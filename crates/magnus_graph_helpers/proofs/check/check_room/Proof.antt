@@ -1,4 +1,4 @@
--- `magnus_graph::check::check_room` meets its contract: it makes the test of `roomFault`. Assumes nothing.
+-- `magnus_graph_helpers::check::check_room` meets its contract: it makes the test of `roomFault`. Assumes nothing.
 use borrow.Author.Tests.{lt-ltb, le-ltb}
 use Rattle.error.proofs.Checks.{refuses, accepts}
 use Rattle.magnus_graph_helpers.specs.StepChecks.{roomFault}

@@ -1,4 +1,4 @@
--- `magnus_graph::check::check_sample_weights` meets its contract: where every weight is positive there is no fault, and where not,
+-- `magnus_graph_helpers::check::check_sample_weights` meets its contract: where every weight is positive there is no fault, and where not,
 -- the walk finds the first. Assumes nothing.
 use mathlib.Core.Path.{_≡_, sym}
 use mathlib.Core.Bool.{Bool, true, false, not, Bool·not-not}

@@ -1,4 +1,4 @@
--- `magnus_graph::check::check_tau` meets its contract: it makes the test of `tauFault`. Assumes nothing.
+-- `magnus_graph_helpers::check::check_tau` meets its contract: it makes the test of `tauFault`. Assumes nothing.
 use mathlib.Core.Path.{_≡_}
 use mathlib.Core.Bool.{Bool, not, _||_}
 use borrow.Author.Needs.{needs}

@@ -1,4 +1,4 @@
--- `magnus_graph::check::check_weighted_bounds` meets its contract: it makes the checks of `weightedBoundsFault` in their order.
+-- `magnus_graph_helpers::check::check_weighted_bounds` meets its contract: it makes the checks of `weightedBoundsFault` in their order.
 -- Assumes nothing.
 use borrow.Author.Needs.{needs}
 use Rattle.error.proofs.Checks.{refused-here, accepted-then}

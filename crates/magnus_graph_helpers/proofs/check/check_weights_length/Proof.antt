@@ -1,4 +1,4 @@
--- `magnus_graph::check::check_weights_length` meets its contract: it makes the test of `weightsLengthFault`, and where that
+-- `magnus_graph_helpers::check::check_weights_length` meets its contract: it makes the test of `weightsLengthFault`, and where that
 -- refuses, names the larger length. Assumes nothing.
 use mathlib.Core.Path.{_≡_, sym, ap, _∙_}
 use mathlib.Core.Bool.{Bool, true, not}

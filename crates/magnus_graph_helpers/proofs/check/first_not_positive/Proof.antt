@@ -1,4 +1,4 @@
--- `magnus_graph::check::first_not_positive` meets its contract. The loop keeps that every weight before place k is
+-- `magnus_graph_helpers::check::first_not_positive` meets its contract. The loop keeps that every weight before place k is
 -- positive. Assumes nothing.
 use mathlib.Core.Path.{sym, _∙_}
 use Prim.Native.Nat.{_-_, _<_}

@@ -1,4 +1,4 @@
--- `magnus_graph::check::is_positive` meets its contract: its test is `positive-by-comparisons`. Assumes nothing.
+-- `magnus_graph_helpers::check::is_positive` meets its contract: its test is `positive-by-comparisons`. Assumes nothing.
 use Rattle.magnus_graph_helpers.proofs.Positive.{positive-by-comparisons}
 use Rattle.magnus_graph_helpers.proofs.check.is_positive.Statement.{statement}
 use Rattle.magnus_graph_helpers.proofs.check.is_positive.Tie as tie
