@@ -52,6 +52,10 @@ module _ {A : Type 0} where
     pub read-ahead : (j : ℕ) → at + i ≤ j → (d : A) → getD w j d ≡ getD w₀ j d
     read-ahead j l d = rw (written .list) (getD-of-put-after at (tabulate f i) w₀ j d (rw (length-tabulate f i) l))
 
+    -- so is the turn's element of a vector that does not begin before the one that is written
+    pub read-after : (a : ℕ) → at ≤ a → i < n → (d : A) → getD w (a + i) d ≡ getD (part a n w₀) i d
+    read-after a h l d = read-ahead (a + i) (omega arith) d ∙ sym (getD-part a n w₀ i d l)
+
     pub read-here : i < n → (d : A) → getD w (at + i) d ≡ getD (part at n w₀) i d
     read-here l d = read-ahead (at + i) (omega arith) d ∙ sym (getD-part at n w₀ i d l)
 

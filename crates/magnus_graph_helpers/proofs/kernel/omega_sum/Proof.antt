@@ -1,11 +1,11 @@
--- `magnus_graph_helpers::kernel::omega_sum` meets its contract: a turn reads the next elements of three vectors, which are
--- apart from what is written, and that of the target, which is not yet written. Assumes nothing.
+-- `magnus_graph_helpers::kernel::omega_sum` meets its contract: a turn reads the next elements of three vectors and of
+-- the target, none of which is written yet. Assumes nothing.
 use Prim.Native.Nat.{_-_}
 use native.Mathlib.Omega.{arith}
 use lib.Ieee.{binary64, nan}
 use Rattle.arithmetic.specs.Arithmetic.{ieee}
 use Rattle.scratch.specs.Parts.{part}
-use Rattle.scratch.proofs.Writing.{fewer-turns, Written, written-none, written-next, written-all, read-apart, read-here}
+use Rattle.scratch.proofs.Writing.{fewer-turns, Written, written-none, written-next, written-all, read-after, read-here}
 use Rattle.magnus_graph_helpers.proofs.Terms.{omega4SumAt, omega4-sum-walk}
 use Rattle.magnus_graph_helpers.proofs.kernel.omega_sum.Statement.{statement}
 use Rattle.magnus_graph_helpers.proofs.kernel.omega_sum.Tie as tie
@@ -78,12 +78,11 @@ loop-again c =
     let test = c .before .before .before .before in
     let start = test .before .before in
     let args = start .args in
-    let apart = start .pre .1 in
     let written = test .before .loop .inv in
     let turn = test .loop-test .taken in
-    let a-read = read-apart written (args .a) (apart .1) turn nan in
-    let b-read = read-apart written (args .b) (apart .2) turn nan in
-    let c-read = read-apart written (args .c) (apart .3) turn nan in
+    let a-read = read-after written (args .a) (start .pre .1 .0) turn nan in
+    let b-read = read-after written (args .b) (start .pre .1 .1) turn nan in
+    let c-read = read-after written (args .c) (start .pre .1 .2) turn nan in
     let d-read = read-here written turn nan in
     written-next written turn _ _ (omega arith) (cc (a-read, b-read, c-read, d-read))
 
