@@ -12,18 +12,20 @@ from list_format import ROOT, encode_case
 from oracle import settle
 from random_reals import Random
 
+# The parts of each list, each drawn from the seed anew.
 LISTS = {
-    "crates/replay_roots/stdin": lambda random: [(ROOT, fields) for fields in roots.inputs(random)],
-    "crates/replay_networks/stdin": networks.inputs,
-    "crates/replay_steps/stdin": steps.inputs,
-    "crates/replay_steps6/stdin": steps6.inputs,
-    "crates/replay_runs/stdin": runs.inputs,
+    "crates/replay_roots/stdin": (lambda random: [(ROOT, fields) for fields in roots.inputs(random)],),
+    "crates/replay_networks/stdin": (networks.inputs,),
+    "crates/replay_steps/stdin": (steps.inputs, steps6.inputs),
+    "crates/replay_runs/stdin": (runs.inputs,),
 }
 
 
 def main(oracle, seed):
     """Settles every case first, so that a difference leaves the stored lists as they were."""
-    settled = {path: settle(oracle, inputs(Random(seed))) for path, inputs in LISTS.items()}
+    settled = {}
+    for path, parts in LISTS.items():
+        settled[path] = settle(oracle, [pair for inputs in parts for pair in inputs(Random(seed))])
     for path, cases in settled.items():
         with open(path, "wb") as file:
             file.write(b"".join(encode_case(case) for case in cases))

@@ -1,17 +1,18 @@
-// Replays a stored list of steps of order 4: each call is made again, and its answer and the slices that it writes are
+// Replays a stored list of steps of orders 4 and 6: each call is made again, and its answer and the slices that it writes are
 // compared in every bit. Any NaN matches any NaN.
 use crate::steps::step_right;
 use replay::Case;
 use replay::Tally;
 use replay::next_case;
 
+mod order6;
 mod steps;
 mod weighted_steps;
 
 // A case of a kind, counted as right or wrong: whether its call does what the case says.
 fn counted(kind: u64, fields: &[u8], tally: Tally) -> Tally {
     match kind {
-        7..=10 => tally.counted(step_right(kind, fields)),
+        7..=11 => tally.counted(step_right(kind, fields)),
         _ => tally.counted(false),
     }
 }

@@ -1,5 +1,8 @@
-// The steps of order 4: kinds 7 (forward), 8 (adjoint), 9 (weighted forward) and 10 (weighted adjoint). The arrays have
-// room for every slice that a case of 65,536 bytes can have, and for the work slices of the list.
+// The steps of order 4, kinds 7 (forward), 8 (adjoint), 9 (weighted forward) and 10 (weighted adjoint), and the step of
+// order 6, kind 11. The arrays have room for every slice that a case of 65,536 bytes can have, and for the work slices of
+// the list. A step of order 4 has an empty third sample, and an unweighted step has no weights; neither call takes them.
+use crate::order6::has_three_samples;
+use crate::order6::read_third;
 use crate::weighted_steps::is_weighted;
 use crate::weighted_steps::read_weights;
 use crate::weighted_steps::weighted_step;
@@ -8,6 +11,7 @@ use float::bits::from_bits;
 use float::bits::has_bits;
 use magnus_graph::apply_exp_omega4_adj_kernel;
 use magnus_graph::apply_exp_omega4_kernel;
+use magnus6_graph::apply_exp_omega6_kernel;
 use replay::answer::answer_at;
 use replay::answer::is_acceptance;
 use replay::answer::written_right;
@@ -18,7 +22,9 @@ use replay::fields::read_reals;
 use replay::kernel::byte;
 
 // The most elements that a work slice of the list has.
-const MOST_WORK: usize = 8192;
+const MOST_WORK: usize = 24576;
+
+const MOST_NODES: usize = 4096;
 
 // The numbers of a step: its length, the spectral bound, the bound of the weights' roots, whether row 8 is checked, and
 // the position of the field after them.
@@ -66,12 +72,19 @@ fn work_right(work: &[f64], cleared: usize, before: u64) -> bool {
     true
 }
 
-// How many elements of the work slice an accepted step of a kind clears: 5n, or 9n where it is weighted.
+// How many elements of the work slice an accepted step of a kind clears: 5n, 9n where it is weighted, 22n at order 6. A step
+// of more than 4,096 nodes is not accepted.
 fn cleared_by(kind: u64, dst: &[f64]) -> usize {
-    if is_weighted(kind) {
-        9 * dst.len()
+    let n = dst.len();
+    if MOST_NODES < n {
+        return 0;
+    }
+    if has_three_samples(kind) {
+        22 * n
+    } else if is_weighted(kind) {
+        9 * n
     } else {
-        5 * dst.len()
+        5 * n
     }
 }
 
@@ -91,7 +104,8 @@ fn outcome_right(
     written_right(checked, dst, fields, at) && work_right(work, cleared, before)
 }
 
-// The step of a kind: forward at kind 7, adjoint at kind 8, or else weighted. Only a weighted step takes the weights.
+// The step of a kind: forward at kind 7, adjoint at kind 8, of order 6 at kind 11, or else weighted. Only a step of order 6
+// takes the third sample, and only a weighted step the weights.
 fn stepped(
     kind: u64,
     n1: usize,
@@ -102,6 +116,10 @@ fn stepped(
     row_ptr2: &[usize],
     col_idx2: &[u32],
     vals2: &[f64],
+    n3: usize,
+    row_ptr3: &[usize],
+    col_idx3: &[u32],
+    vals3: &[f64],
     numbers: Numbers,
     a1: &[f64],
     a2: &[f64],
@@ -112,6 +130,28 @@ fn stepped(
     let tau = numbers.tau;
     let rho_bar_max = numbers.rho_bar_max;
     let convergence_radius_check = numbers.convergence_radius_check;
+    if has_three_samples(kind) {
+        return apply_exp_omega6_kernel(
+            n1,
+            row_ptr1,
+            col_idx1,
+            vals1,
+            n2,
+            row_ptr2,
+            col_idx2,
+            vals2,
+            n3,
+            row_ptr3,
+            col_idx3,
+            vals3,
+            tau,
+            rho_bar_max,
+            convergence_radius_check,
+            src,
+            dst,
+            work,
+        );
+    }
     if is_weighted(kind) {
         return weighted_step(
             kind,
@@ -182,6 +222,10 @@ fn call_right(
     row_ptr2: &[usize],
     col_idx2: &[u32],
     vals2: &[f64],
+    n3: usize,
+    row_ptr3: &[usize],
+    col_idx3: &[u32],
+    vals3: &[f64],
     numbers: Numbers,
     a1: &[f64],
     a2: &[f64],
@@ -208,6 +252,10 @@ fn call_right(
         row_ptr2,
         col_idx2,
         vals2,
+        n3,
+        row_ptr3,
+        col_idx3,
+        vals3,
         numbers,
         a1,
         a2,
@@ -229,6 +277,10 @@ fn vectors_right(
     row_ptr2: &[usize],
     col_idx2: &[u32],
     vals2: &[f64],
+    n3: usize,
+    row_ptr3: &[usize],
+    col_idx3: &[u32],
+    vals3: &[f64],
     numbers: Numbers,
     a1: &[f64],
     a2: &[f64],
@@ -251,6 +303,10 @@ fn vectors_right(
         row_ptr2,
         col_idx2,
         vals2,
+        n3,
+        row_ptr3,
+        col_idx3,
+        vals3,
         numbers,
         a1,
         a2,
@@ -272,6 +328,10 @@ fn weights_right(
     row_ptr2: &[usize],
     col_idx2: &[u32],
     vals2: &[f64],
+    n3: usize,
+    row_ptr3: &[usize],
+    col_idx3: &[u32],
+    vals3: &[f64],
     fields: &[u8],
     at: usize,
 ) -> bool {
@@ -292,11 +352,55 @@ fn weights_right(
         row_ptr2,
         col_idx2,
         vals2,
+        n3,
+        row_ptr3,
+        col_idx3,
+        vals3,
         numbers,
         &weights1[..w1],
         &weights2[..w2],
         fields,
         second.next,
+    )
+}
+
+// The same for the third sample, which stands first at the position where there is one.
+fn third_sample_right(
+    kind: u64,
+    n1: usize,
+    row_ptr1: &[usize],
+    col_idx1: &[u32],
+    vals1: &[f64],
+    n2: usize,
+    row_ptr2: &[usize],
+    col_idx2: &[u32],
+    vals2: &[f64],
+    fields: &[u8],
+    at: usize,
+) -> bool {
+    let mut starts = [0usize; 8192];
+    let mut columns = [0u32; 16384];
+    let mut values = [0.0; 8192];
+    let sample = read_third(kind, fields, at, &mut starts, &mut columns, &mut values);
+    let r = sample.starts;
+    let c = sample.columns;
+    let v = sample.values;
+    weights_right(
+        kind,
+        n1,
+        row_ptr1,
+        col_idx1,
+        vals1,
+        n2,
+        row_ptr2,
+        col_idx2,
+        vals2,
+        sample.n,
+        &starts[..r],
+        &columns[..c],
+        &values[..v],
+        fields,
+        sample.next,
     )
 }
 
@@ -317,7 +421,7 @@ fn second_sample_right(
     let r = sample.starts;
     let c = sample.columns;
     let v = sample.values;
-    weights_right(
+    third_sample_right(
         kind,
         n1,
         row_ptr1,

@@ -9,7 +9,7 @@ use varcoef_magnus_graph::apply_exp_omega4_la_kernel;
 
 // Whether the steps of a kind have node weights.
 pub fn is_weighted(kind: u64) -> bool {
-    9 <= kind
+    kind == 9 || kind == 10
 }
 
 // Reads the weights of a sample to the start of the target. An unweighted step has none, and no field for them.
