@@ -97,6 +97,39 @@ mod exported {
             work: *mut f64,
             work_len: usize,
         ) -> u32;
+
+        pub fn bench_apply_exp_omega6_kernel(
+            n1: usize,
+            row_ptr1: *const usize,
+            row_ptr1_len: usize,
+            col_idx1: *const u32,
+            col_idx1_len: usize,
+            vals1: *const f64,
+            vals1_len: usize,
+            n2: usize,
+            row_ptr2: *const usize,
+            row_ptr2_len: usize,
+            col_idx2: *const u32,
+            col_idx2_len: usize,
+            vals2: *const f64,
+            vals2_len: usize,
+            n3: usize,
+            row_ptr3: *const usize,
+            row_ptr3_len: usize,
+            col_idx3: *const u32,
+            col_idx3_len: usize,
+            vals3: *const f64,
+            vals3_len: usize,
+            tau: f64,
+            rho_bar_max: f64,
+            convergence_radius_check: bool,
+            src: *const f64,
+            src_len: usize,
+            dst: *mut f64,
+            dst_len: usize,
+            work: *mut f64,
+            work_len: usize,
+        ) -> u32;
     }
 }
 
@@ -239,6 +272,53 @@ pub fn apply_exp_omega4_la_kernel(
             weights[0].len(),
             weights[1].as_ptr(),
             weights[1].len(),
+            src.as_ptr(),
+            src.len(),
+            dst.as_mut_ptr(),
+            dst.len(),
+            work.as_mut_ptr(),
+            work.len(),
+        )
+    }
+}
+
+/// A step of order 6 between three samples, of 22n work elements, with the radius check. 0 where it accepts.
+pub fn apply_exp_omega6_kernel(
+    samples: [&Network; 3],
+    tau: f64,
+    rho_bar_max: f64,
+    src: &[f64],
+    dst: &mut [f64],
+    work: &mut [f64],
+) -> u32 {
+    let [first, second, third] = samples;
+    // SAFETY: each pointer and length is a slice's; the call reads within them and writes within the last two only.
+    unsafe {
+        exported::bench_apply_exp_omega6_kernel(
+            first.n,
+            first.row_ptr.as_ptr(),
+            first.row_ptr.len(),
+            first.col_idx.as_ptr(),
+            first.col_idx.len(),
+            first.vals.as_ptr(),
+            first.vals.len(),
+            second.n,
+            second.row_ptr.as_ptr(),
+            second.row_ptr.len(),
+            second.col_idx.as_ptr(),
+            second.col_idx.len(),
+            second.vals.as_ptr(),
+            second.vals.len(),
+            third.n,
+            third.row_ptr.as_ptr(),
+            third.row_ptr.len(),
+            third.col_idx.as_ptr(),
+            third.col_idx.len(),
+            third.vals.as_ptr(),
+            third.vals.len(),
+            tau,
+            rho_bar_max,
+            true,
             src.as_ptr(),
             src.len(),
             dst.as_mut_ptr(),

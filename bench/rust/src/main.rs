@@ -1,10 +1,11 @@
-//! The row product and the steps of order 4 beside the published Rust's, in one process and on the same networks: the product
+//! The row product and the steps of orders 4 and 6 beside the published Rust's, in one process and on the same networks: the product
 //! alone, the whole checked call and the pattern check alone, and whole steps. The results must be the Rust's bit for bit; else
 //! it stops.
 
 mod archive;
 mod networks;
 mod steps;
+mod steps6;
 mod timing;
 
 use std::hint::black_box;
@@ -105,4 +106,5 @@ fn main() {
         }
     }
     steps::print(&mut random);
+    steps6::print(&mut random);
 }

@@ -3,6 +3,7 @@ use error::Checked;
 use graph::apply_into_slice;
 use graph::from_csr_parts;
 use magnus_graph::apply_exp_omega4_kernel;
+use magnus6_graph::apply_exp_omega6_kernel;
 use square_root::kernel::sqrt_into_slice;
 use square_root::sqrt;
 use varcoef_magnus_graph::apply_exp_omega4_la_kernel;
@@ -127,6 +128,50 @@ pub extern "C" fn bench_apply_exp_omega4_la_kernel(
         convergence_radius_check,
         a1,
         a2,
+        src,
+        dst,
+        work,
+    ))
+}
+
+// The step of order 6 with its checks.
+#[no_mangle]
+pub extern "C" fn bench_apply_exp_omega6_kernel(
+    n1: usize,
+    row_ptr1: &[usize],
+    col_idx1: &[u32],
+    vals1: &[f64],
+    n2: usize,
+    row_ptr2: &[usize],
+    col_idx2: &[u32],
+    vals2: &[f64],
+    n3: usize,
+    row_ptr3: &[usize],
+    col_idx3: &[u32],
+    vals3: &[f64],
+    tau: f64,
+    rho_bar_max: f64,
+    convergence_radius_check: bool,
+    src: &[f64],
+    dst: &mut [f64],
+    work: &mut [f64],
+) -> u32 {
+    refused(apply_exp_omega6_kernel(
+        n1,
+        row_ptr1,
+        col_idx1,
+        vals1,
+        n2,
+        row_ptr2,
+        col_idx2,
+        vals2,
+        n3,
+        row_ptr3,
+        col_idx3,
+        vals3,
+        tau,
+        rho_bar_max,
+        convergence_radius_check,
         src,
         dst,
         work,
