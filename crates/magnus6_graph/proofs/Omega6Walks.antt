@@ -17,17 +17,23 @@ module _ {K : Type 0} (A : Arithmetic K) where
   infixl 60 _+_ _-_
   infixl 70 _*_
   infix 80 -_
-  -- each sum at place i, and the walk over the places that writes it
+  -- each sum of numbers, at place i of its vectors, and the walk over the places that writes it
+  abbrev pub secondDifferenceOf : K → K → K → K → K
+  secondDifferenceOf s a1 a2 a3 = s * (- a3 + a2 + a2 - a1)
+
   abbrev pub secondDifferenceAt : K → List K → List K → List K → ℕ → K
-  secondDifferenceAt s a1 a2 a3 i = s * (- at A a3 i + at A a2 i + at A a2 i - at A a1 i)
+  secondDifferenceAt s a1 a2 a3 i = secondDifferenceOf s (at A a1 i) (at A a2 i) (at A a3 i)
 
   pub second-difference-walk : (n : ℕ) (s : K) (a1 a2 a3 : List K)
       → tabulate (secondDifferenceAt s a1 a2 a3) n ≡ scaledSecondDifference A n s a1 a2 a3
   unfolding scaledSecondDifference
   second-difference-walk n s a1 a2 a3 = tabulate-same _ _ n (λ i h. simp (at-tabulate A))
 
+  abbrev pub twiceFirstPlusOf : K → K → K
+  twiceFirstPlusOf b3x c1x = b3x + b3x + c1x
+
   abbrev pub twiceFirstPlusAt : List K → List K → ℕ → K
-  twiceFirstPlusAt b3x c1x i = at A b3x i + at A b3x i + at A c1x i
+  twiceFirstPlusAt b3x c1x i = twiceFirstPlusOf (at A b3x i) (at A c1x i)
 
   pub twice-first-plus-walk : (n : ℕ) (b3x c1x : List K)
       → tabulate (twiceFirstPlusAt b3x c1x) n ≡ twiceFirstPlus A n b3x c1x
@@ -40,7 +46,7 @@ module _ {K : Type 0} (A : Arithmetic K) where
     abbrev pub c2Of : K → K → K → K → K → K → K → K
     c2Of p2w p1y p2y p3y p2b2y p1p2y p3p2y =
         (- oneOver60) * ((- τ) * p2w
-        - (((τ + τ) * tenOver3) * (- p3y + p2y + p2y - p1y)
+        - (secondDifferenceOf ((τ + τ) * tenOver3) p1y p2y p3y
         + ((- τ) * p2b2y - (τ * sqrt15Over3 * - τ) * (p1p2y - p3p2y))))
 
     abbrev pub c2SumAt : List K → List K → List K → List K → List K → List K → List K → ℕ → K

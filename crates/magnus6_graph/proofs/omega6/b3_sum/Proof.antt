@@ -6,14 +6,16 @@ use lib.Ieee.{binary64, ofBits, mul, div, nan}
 use Rattle.arithmetic.specs.Arithmetic.{ieee}
 use Rattle.scratch.specs.Parts.{part}
 use Rattle.scratch.proofs.Writing.{fewer-turns, Written, written-none, written-next, written-all, read-apart}
-use Rattle.magnus6_graph.proofs.Omega6Walks.{secondDifferenceAt, second-difference-walk}
+use Rattle.magnus.specs.Omega6.{constants6}
+use Rattle.magnus6_graph.proofs.Omega6Walks.{secondDifferenceOf, secondDifferenceAt, second-difference-walk}
 use Rattle.magnus6_graph.proofs.omega6.b3_sum.Statement.{statement}
 use Rattle.magnus6_graph.proofs.omega6.b3_sum.Tie as tie
 
 abbrev Inv-loop : tie.InvT-loop
 Inv-loop work₀ n tau a1 a2 a3 target scale i₀ work i =
     Written (11 * n)
-    (secondDifferenceAt (ieee binary64) scale (part (6 * n) n work₀) (part (7 * n) n work₀) (part (8 * n) n work₀))
+    (secondDifferenceAt (ieee binary64) (mul binary64 tau (constants6 .tenOver3))
+    (part (6 * n) n work₀) (part (7 * n) n work₀) (part (8 * n) n work₀))
     n work₀ i work
 
 abbrev μ-loop : tie.MeasureT-loop
@@ -88,6 +90,7 @@ loop-less c =
     fewer-turns _ _ (test .loop-test .taken)
 
 loop-again : tie.Need-loop-again Inv-loop μ-loop
+unfolding ofBits div
 loop-again c =
     let test = c .before .before .before .before in
     let loop = test .before in
@@ -98,13 +101,13 @@ loop-again c =
     let a1 = read-apart written (6 * n) (omega arith) turn nan in
     let a2 = read-apart written (7 * n) (omega arith) turn nan in
     let a3 = read-apart written (8 * n) (omega arith) turn nan in
-    written-next written turn _ _ (omega arith) (cc (a1, a2, a3))
+    let scale = mul binary64 (start .args .tau) (constants6 .tenOver3) in
+    written-next written turn _ _ (omega arith) (λ j. secondDifferenceOf (ieee binary64) scale (a1 j) (a2 j) (a3 j))
 
 same-length : tie.Need-same-length Inv-loop μ-loop
 same-length c = c .before .loop .inv .length-kept
 
 returns : tie.Need-returns Inv-loop μ-loop
-unfolding ofBits div
 returns c =
     let loop = c .before in
     let start = loop .before in

@@ -1,12 +1,13 @@
 -- `magnus6_graph::omega6::w_sum` meets its contract: a turn reads the next elements of two vectors, which are apart from what
 -- is written. Assumes nothing.
+use mathlib.Core.Path.{ap₂}
 use Prim.Native.Nat.{_-_, _*_}
 use native.Mathlib.Omega.{arith}
 use lib.Ieee.{binary64, nan}
 use Rattle.arithmetic.specs.Arithmetic.{ieee}
 use Rattle.scratch.specs.Parts.{part}
 use Rattle.scratch.proofs.Writing.{fewer-turns, Written, written-none, written-next, written-all, read-apart}
-use Rattle.magnus6_graph.proofs.Omega6Walks.{twiceFirstPlusAt, twice-first-plus-walk}
+use Rattle.magnus6_graph.proofs.Omega6Walks.{twiceFirstPlusOf, twiceFirstPlusAt, twice-first-plus-walk}
 use Rattle.magnus6_graph.proofs.omega6.w_sum.Statement.{statement}
 use Rattle.magnus6_graph.proofs.omega6.w_sum.Tie as tie
 
@@ -85,7 +86,7 @@ loop-again c =
     let turn = test .loop-test .taken in
     let b3x = read-apart written (11 * n) (omega arith) turn nan in
     let c1x = read-apart written (13 * n) (omega arith) turn nan in
-    written-next written turn _ _ (omega arith) (cc (b3x, c1x))
+    written-next written turn _ _ (omega arith) (ap₂ (twiceFirstPlusOf (ieee binary64)) b3x c1x)
 
 same-length : tie.Need-same-length Inv-loop μ-loop
 same-length c = c .before .loop .inv .length-kept
