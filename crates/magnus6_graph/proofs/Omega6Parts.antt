@@ -5,19 +5,19 @@ use mathlib.Core.Path.{_≡_, refl, ap, ap₂, _∙_}
 use mathlib.Core.List.{List}
 use Prim.Native.Nat.{ℕ, _≤_, _+_ as _+ℕ_, _*_ as _*ℕ_}
 use native.Mathlib.Omega.{arith}
-use lib.ListN.{length, drop}
+use lib.ListN.{length}
 use Rattle.arithmetic.specs.Arithmetic.{Arithmetic, scaled, added, subtracted}
 use Rattle.arithmetic.specs.Product.{plusScaled}
 use Rattle.arithmetic.proofs.Tabulate.{length-tabulate}
 use Rattle.arithmetic.proofs.Product.{length-plus-scaled}
-use Rattle.scratch.specs.Parts.{part, put, Apart}
+use Rattle.scratch.specs.Parts.{part, put}
 use Rattle.scratch.proofs.Parts.{Wrote, wrote, length-part}
 use Rattle.magnus.specs.Operators.{Operator}
 use Rattle.magnus.specs.OperatorArithmetic.{onVectors}
 use Rattle.magnus.specs.Omega6.{Constants6, b1, b2, c1, lop, rop, omega6}
 use Rattle.magnus_graph_helpers.specs.Terms.{TermAdded}
 use Rattle.magnus_graph_helpers.proofs.Terms.{term-added}
-use Rattle.magnus6_graph.specs.Omega6Parts.{scaledSecondDifference, twiceFirstPlus, c2Sum, Kept, B1, B2, B3, C1, W, Lop, Rop}
+use Rattle.magnus6_graph.specs.Omega6Parts.{scaledSecondDifference, twiceFirstPlus, c2Sum, Kept, Lop, Rop}
 use Rattle.magnus6_graph.specs.Omega6Parts.{second-difference-sum, twice-first-plus, c2-sum}
 use Rattle.magnus6_graph.specs.Omega6Parts.{BFormed, C1Formed, C2Formed, LopFormed, RopFormed, AtVFormed}
 use Rattle.magnus6_graph.proofs.Omega6Walks.{length-second-difference, length-twice-first-plus, length-c2-sum}
@@ -28,7 +28,7 @@ module _ {K : Type 0} (n : ℕ) where
   pub kept-all : (from : ℕ) (w : List K) → Kept n from w w
   kept-all from w = record { before = λ a h. refl; length-kept = refl; rest = λ j h. refl }
 
-  -- one write more, at or after `from`
+  -- one write more, at index `from` or after it
   pub kept-write : {from : ℕ} {w w₁ : List K} → Kept n from w w₁ → {t : ℕ} {x w₂ : List K} → Wrote n t x w₁ w₂
       → from ≤ t
       → t +ℕ n ≤ 22 *ℕ n
@@ -39,7 +39,7 @@ module _ {K : Type 0} (n : ℕ) where
     rest = λ j h. written .rest j (omega arith) ∙ kept .rest j h;
   }
 
-  -- fewer vectors before `from`, and what two calls keep
+  -- fewer vectors are asked for
   pub kept-fewer : {from : ℕ} {w w₁ : List K} → Kept n from w w₁ → (to : ℕ) → to ≤ from → Kept n to w w₁
   kept-fewer kept to less = record {
     before = λ a h. kept .before a (omega arith);

@@ -23,7 +23,7 @@
 //   19n   L3 L2 y
 //   20n   C2 x
 //   21n   (B2 + C2) l
-// No place is read after something else was written there.
+// No vector is read after another has taken its place.
 ghost use mathlib.Core.Path.{_≡_};
 ghost use Prim.Native.Nat.{_+_, _*_, _≤_};
 ghost use lib.ListN.{length};

@@ -57,7 +57,7 @@ loop-again c =
     let coefficient = term .before .before in
     let test = coefficient .before in
     let head = test .before in
-    turns-next (ieee binary64) _ _ _ (head .loop .inv) (test .loop-test .taken) _ _
+    turns-next (ieee binary64) _ _ _ (head .loop .inv) (omega (arith, test .loop-test .taken)) _ _
     (coefficient .reciprocal-factorial .ensures) (term .taylor-term6 .ensures)
 
 same-length : tie.Need-same-length Inv-loop μ-loop
