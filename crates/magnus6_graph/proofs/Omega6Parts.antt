@@ -106,7 +106,7 @@ module _ {K : Type 0} (A : Arithmetic K) (n : ℕ) (k : Constants6 K) (τ : K) (
 
   -- ---- C1x
 
-  pub c1-formed : {v w w₁ : List K} (w₂ w₃ w₄ w₅ w₆ : List K)
+  pub c1-formed : (v w : List K) {w₁ : List K} (w₂ w₃ w₄ w₅ w₆ : List K)
       → 22 *ℕ n ≤ length w
       → BFormed A n k τ P1 P2 P3 v w w₁
       → w₂ ≡ put (6 *ℕ n) (P2 (part (10 *ℕ n) n w₁)) w₁
@@ -116,7 +116,7 @@ module _ {K : Type 0} (A : Arithmetic K) (n : ℕ) (k : Constants6 K) (τ : K) (
       → w₆ ≡ put (13 *ℕ n) (subtracted A n (scaled A n (- τ) (part (6 *ℕ n) n w₅)) (part (12 *ℕ n) n w₅)) w₅
       → C1Formed A n k τ P1 P2 P3 v w w₆
   unfolding b1 b2 c1
-  c1-formed {v} {w} {w₁} w₂ w₃ w₄ w₅ w₆ room b e₂ e₃ e₄ e₅ e₆ =
+  c1-formed v w {w₁} w₂ w₃ w₄ w₅ w₆ room b e₂ e₃ e₄ e₅ e₆ =
       let room₁ = room-kept n (b .kept) room in
       let s₂ = wrote n (6 *ℕ n) _ w₁ w₂ (size2 _) (omega arith) e₂ in
       let s₃ = wrote n (7 *ℕ n) _ w₂ w₃ (size1 _) (omega arith) e₃ in
@@ -150,7 +150,7 @@ module _ {K : Type 0} (A : Arithmetic K) (n : ℕ) (k : Constants6 K) (τ : K) (
 
   -- ---- C2x
 
-  pub c2-formed : {v w w₁ : List K} (w₂ w₃ w₄ w₅ w₆ w₇ w₈ : List K)
+  pub c2-formed : (v w : List K) {w₁ : List K} (w₂ w₃ w₄ w₅ w₆ w₇ w₈ : List K)
       → 22 *ℕ n ≤ length w
       → C1Formed A n k τ P1 P2 P3 v w w₁
       → w₂ ≡ put (14 *ℕ n) (twiceFirstPlus A n (part (11 *ℕ n) n w₁) (part (13 *ℕ n) n w₁)) w₁
@@ -162,7 +162,7 @@ module _ {K : Type 0} (A : Arithmetic K) (n : ℕ) (k : Constants6 K) (τ : K) (
       → w₈ ≡ put (20 *ℕ n) (c2Sum A n k τ (part (15 *ℕ n) n w₇) (part (7 *ℕ n) n w₇) (part (16 *ℕ n) n w₇)
       (part (8 *ℕ n) n w₇) (part (17 *ℕ n) n w₇) (part (18 *ℕ n) n w₇) (part (19 *ℕ n) n w₇)) w₇
       → C2Formed A n k τ P1 P2 P3 v w w₈
-  c2-formed {v} {w} {w₁} w₂ w₃ w₄ w₅ w₆ w₇ w₈ room c e₂ e₃ e₄ e₅ e₆ e₇ e₈ =
+  c2-formed v w {w₁} w₂ w₃ w₄ w₅ w₆ w₇ w₈ room c e₂ e₃ e₄ e₅ e₆ e₇ e₈ =
       let room₁ = room-kept n (c .kept) room in
       let s₂ = wrote n (14 *ℕ n) _ w₁ w₂ (length-twice-first-plus A n _ _) (omega arith) e₂ in
       let s₃ = wrote n (15 *ℕ n) _ w₂ w₃ (size2 _) (omega arith) e₃ in
@@ -208,14 +208,14 @@ module _ {K : Type 0} (A : Arithmetic K) (n : ℕ) (k : Constants6 K) (τ : K) (
 
   -- ---- the operators of the last commutator
 
-  pub lop-formed : {v w w₁ : List K} (w₂ w₃ : List K)
+  pub lop-formed : (v w : List K) {w₁ : List K} (w₂ w₃ : List K)
       → 22 *ℕ n ≤ length w
       → C1Formed A n k τ P1 P2 P3 v w w₁
       → w₂ ≡ put (14 *ℕ n) (subtracted A n (scaled A n minusTwenty (part (9 *ℕ n) n w₁)) (part (11 *ℕ n) n w₁)) w₁
       → w₃ ≡ put (5 *ℕ n) (added A n (part (14 *ℕ n) n w₂) (part (13 *ℕ n) n w₂)) w₂
       → LopFormed A n k τ P1 P2 P3 v w w₃
   unfolding lop
-  lop-formed {v} {w} {w₁} w₂ w₃ room c e₂ e₃ =
+  lop-formed v w {w₁} w₂ w₃ room c e₂ e₃ =
       let room₁ = room-kept n (c .kept) room in
       let s₂ = wrote n (14 *ℕ n) _ w₁ w₂ (length-tabulate _ n) (omega arith) e₂ in
       let s₃ = wrote n (5 *ℕ n) _ w₂ w₃ (length-tabulate _ n) (omega arith) e₃ in
@@ -226,13 +226,13 @@ module _ {K : Type 0} (A : Arithmetic K) (n : ℕ) (k : Constants6 K) (τ : K) (
         kept = kept-write n kept₂ s₃ (omega arith) (omega arith);
       }
 
-  pub rop-formed : {v w w₁ : List K} (w₂ : List K)
+  pub rop-formed : (v w : List K) {w₁ : List K} (w₂ : List K)
       → 22 *ℕ n ≤ length w
       → C2Formed A n k τ P1 P2 P3 v w w₁
       → w₂ ≡ put (21 *ℕ n) (added A n (part (10 *ℕ n) n w₁) (part (20 *ℕ n) n w₁)) w₁
       → RopFormed A n k τ P1 P2 P3 v w w₂
   unfolding rop
-  rop-formed {v} {w} {w₁} w₂ room c e₂ =
+  rop-formed v w {w₁} w₂ room c e₂ =
       let room₁ = room-kept n (c .kept) room in
       let s₂ = wrote n (21 *ℕ n) _ w₁ w₂ (length-tabulate _ n) (omega arith) e₂ in
       record {
@@ -241,7 +241,7 @@ module _ {K : Type 0} (A : Arithmetic K) (n : ℕ) (k : Constants6 K) (τ : K) (
       }
 
   -- both at v, and the part of Ωv before the commutator
-  pub at-v-formed : {v w w₁ : List K} (w₂ w₃ w₄ w₅ w₆ : List K)
+  pub at-v-formed : (v w : List K) {w₁ : List K} (w₂ w₃ w₄ w₅ w₆ : List K)
       → 22 *ℕ n ≤ length w
       → C2Formed A n k τ P1 P2 P3 v w w₁
       → w₂ ≡ put (2 *ℕ n) (part (9 *ℕ n) n w₁) w₁
@@ -251,7 +251,7 @@ module _ {K : Type 0} (A : Arithmetic K) (n : ℕ) (k : Constants6 K) (τ : K) (
       → w₆ ≡ put (4 *ℕ n) (added A n (part (10 *ℕ n) n w₅) (part (20 *ℕ n) n w₅)) w₅
       → AtVFormed A n k τ P1 P2 P3 v w w₆
   unfolding lop rop
-  at-v-formed {v} {w} {w₁} w₂ w₃ w₄ w₅ w₆ room c e₂ e₃ e₄ e₅ e₆ =
+  at-v-formed v w {w₁} w₂ w₃ w₄ w₅ w₆ room c e₂ e₃ e₄ e₅ e₆ =
       let room₁ = room-kept n (c .kept) room in
       let s₂ = wrote n (2 *ℕ n) _ w₁ w₂ (length-part (9 *ℕ n) n w₁ (omega arith)) (omega arith) e₂ in
       let s₃ = wrote n (2 *ℕ n) _ w₂ w₃ (length-plus-scaled A n _ _ _) (omega arith) e₃ in

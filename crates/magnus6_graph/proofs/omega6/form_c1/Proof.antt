@@ -4,6 +4,7 @@ use native.Mathlib.Omega.{arith}
 use lib.Ieee.{binary64, ofBits}
 use Rattle.arithmetic.specs.Arithmetic.{ieee}
 use Rattle.arithmetic.proofs.Tabulate.{length-tabulate}
+use Rattle.scratch.specs.Parts.{part}
 use Rattle.graph.specs.RowProduct.{rowProduct64}
 use Rattle.magnus.specs.Omega6.{constants6}
 use Rattle.magnus6_graph.proofs.Omega6Parts.{c1-formed}
@@ -141,7 +142,7 @@ returns c =
     let L2 = rowProduct64 n (args .row-ptr2 .now) (args .col-idx2 .now) (args .vals2 .now) in
     let L3 = rowProduct64 n (args .row-ptr3 .now) (args .col-idx3 .now) (args .vals3 .now) in
     c1-formed (ieee binary64) n constants6 (args .tau) L1 L2 L3 (λ x. length-tabulate _ n) (λ x. length-tabulate _ n) (λ x. length-tabulate _ n)
-    _ _ _ _ _ (start .pre .1 .1 .1 .0)
+    (part (args .x) n (args .work .now)) (args .work .now) _ _ _ _ _ (start .pre .1 .1 .1 .0)
     (first .form-b .ensures) (second .product-in .ensures) (third .product-in2 .ensures) (fourth .product-in3 .ensures) (fifth .scaled-difference .ensures) (sixth .scaled-less .ensures)
 
 pub form-c1-spec : {M : Type 1} → statement M
