@@ -1,3 +1,1 @@
-pub mod Omega6Walks
-pub mod Omega6Parts
 pub mod StepOutcome

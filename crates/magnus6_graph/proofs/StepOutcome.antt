@@ -24,7 +24,7 @@ use Rattle.magnus_graph_helpers.specs.AcceptedStep.{AcceptedStep6}
 use Rattle.magnus_graph_helpers.proofs.StepSound.{refused-not-accepted, step6-accepted}
 use Rattle.magnus_graph.specs.StepOutcome.{StepInput}
 use Rattle.magnus_graph.proofs.StepOutcome.{valued}
-use Rattle.magnus6_graph.specs.Omega6Step.{expOmega6}
+use Rattle.magnus6_graph_helpers.specs.Omega6Step.{expOmega6}
 use Rattle.magnus6_graph.specs.StepOutcome.{Step6Input, step6Answer, Stepped6}
 
 module _ (s : Step6Input) {check : Checked} (made : check ≡ step6Answer s) where

@@ -1,3 +1,1 @@
-pub mod Omega6Step
-pub mod Omega6Parts
 pub mod StepOutcome

@@ -3,11 +3,8 @@
 ghost use Rattle.magnus_graph_helpers.specs.StepChecks.{sample};
 ghost use Rattle.magnus6_graph.specs.StepOutcome.{step6Input, Stepped6};
 use error::Checked;
-use kernel::step6;
 use magnus_graph_helpers::check::check_step6;
-
-pub mod kernel;
-mod omega6;
+use magnus6_graph_helpers::kernel::step6;
 
 // The step: dst becomes exp(Ω)·src by the Taylor sum of degree 6. Refused by rows 6 and 1 to 5 of each sample, 9, 7, 8, and 10 for the second
 // n, the third n, src, dst and work, whose need is 22n; a refusal leaves every slice as it was. Accepted, the first 22n elements of work

@@ -1,0 +1,2 @@
+pub mod Omega6Parts
+pub mod Omega6Walks

@@ -1,0 +1,201 @@
+// The step of order 6 (01, part 9) for callers that have checked its arguments. L1, L2 and L3 are the products with the three
+// samples. The step's vectors of n places lie one after the other in the work slice: at 0 the sum so far, at first the
+// signal and at last the answer; at n v, the signal and then its images under Ω; from 2n on those of src/omega6.rt.
+ghost use mathlib.Core.Path.{_≡_};
+ghost use Prim.Native.Nat.{_*_, _≤_};
+ghost use lib.ListN.{length};
+ghost use lib.Ieee.{binary64};
+ghost use Rattle.arithmetic.specs.Arithmetic.{ieee};
+ghost use Rattle.scratch.specs.Parts.{put, zeros};
+ghost use Rattle.graph.specs.Pattern.{ValuedPattern};
+ghost use Rattle.graph.specs.RowProduct.{rowProduct64};
+ghost use Rattle.magnus.specs.Omega6.{constants6, omega6};
+ghost use Rattle.magnus.specs.OperatorArithmetic.{onVectors};
+ghost use Rattle.magnus.specs.Coefficients.{reciprocalFactorial};
+ghost use Rattle.magnus_graph_helpers.specs.Terms.{TermAdded, TermsAdded};
+ghost use Rattle.magnus6_graph_helpers.specs.Omega6Step.{expOmega6};
+use crate::omega6::ONE_OVER_240;
+use crate::omega6::form_at_v;
+use crate::omega6::form_lop;
+use crate::omega6::form_rop;
+use magnus_graph_helpers::kernel::reciprocal_factorial;
+use scratch::kernel::add;
+use scratch::kernel::add_scaled;
+use scratch::kernel::clear;
+use scratch::kernel::copy_within;
+use scratch::kernel::load;
+use scratch::kernel::scaled_difference;
+use scratch::kernel::store;
+
+// One term of the Taylor sum (`apply_omega6` and `axpy_into_slice` of the Rust): v becomes Ωv, and coefficient · Ωv is
+// added to the sum.
+fn taylor_term6(
+    row_ptr1: &[usize],
+    col_idx1: &[u32],
+    vals1: &[f64],
+    row_ptr2: &[usize],
+    col_idx2: &[u32],
+    vals2: &[f64],
+    row_ptr3: &[usize],
+    col_idx3: &[u32],
+    vals3: &[f64],
+    tau: f64,
+    coefficient: f64,
+    work: &mut [f64],
+    n: usize,
+)
+    requires { ⌜ ValuedPattern n (now «row_ptr1») (now «col_idx1») (now vals1) ⌝ }
+    requires { ⌜ ValuedPattern n (now «row_ptr2») (now «col_idx2») (now vals2) ⌝ }
+    requires { ⌜ ValuedPattern n (now «row_ptr3») (now «col_idx3») (now vals3) ⌝ }
+    requires { ⌜ 22 * n ≤ length (now work) ⌝ }
+    ensures { λ _. let A = ieee binary64 in
+        let L1 = rowProduct64 n (now («row_ptr1» .entry)) (now («col_idx1» .entry)) (now (vals1 .entry)) in
+        let L2 = rowProduct64 n (now («row_ptr2» .entry)) (now («col_idx2» .entry)) (now (vals2 .entry)) in
+        let L3 = rowProduct64 n (now («row_ptr3» .entry)) (now («col_idx3» .entry)) (now (vals3 .entry)) in
+        ⌜ TermAdded A n (22 * n) (omega6 (onVectors A n) constants6 tau L1 L2 L3) coefficient
+        (now (work .entry)) (now (work .exit)) ⌝ }
+{
+    form_at_v(
+        row_ptr1,
+        col_idx1,
+        vals1,
+        row_ptr2,
+        col_idx2,
+        vals2,
+        row_ptr3,
+        col_idx3,
+        vals3,
+        tau,
+        work,
+        n,
+    );
+    form_lop(
+        row_ptr1,
+        col_idx1,
+        vals1,
+        row_ptr2,
+        col_idx2,
+        vals2,
+        row_ptr3,
+        col_idx3,
+        vals3,
+        tau,
+        work,
+        n,
+        4 * n,
+    );
+    form_rop(
+        row_ptr1,
+        col_idx1,
+        vals1,
+        row_ptr2,
+        col_idx2,
+        vals2,
+        row_ptr3,
+        col_idx3,
+        vals3,
+        tau,
+        work,
+        n,
+        3 * n,
+    );
+    // Ωv, over v
+    scaled_difference(work, n, ONE_OVER_240, 5 * n, 21 * n, 6 * n);
+    add(work, n, 2 * n, 6 * n, n);
+    add_scaled(work, n, coefficient, n, 0);
+}
+
+// The Taylor sum of six terms (`accumulate_taylor6` of the Rust): the vector at 0, the signal, becomes the step's answer.
+fn taylor6(
+    row_ptr1: &[usize],
+    col_idx1: &[u32],
+    vals1: &[f64],
+    row_ptr2: &[usize],
+    col_idx2: &[u32],
+    vals2: &[f64],
+    row_ptr3: &[usize],
+    col_idx3: &[u32],
+    vals3: &[f64],
+    tau: f64,
+    work: &mut [f64],
+    n: usize,
+)
+    requires { ⌜ ValuedPattern n (now «row_ptr1») (now «col_idx1») (now vals1) ⌝ }
+    requires { ⌜ ValuedPattern n (now «row_ptr2») (now «col_idx2») (now vals2) ⌝ }
+    requires { ⌜ ValuedPattern n (now «row_ptr3») (now «col_idx3») (now vals3) ⌝ }
+    requires { ⌜ 22 * n ≤ length (now work) ⌝ }
+    ensures { λ _. let A = ieee binary64 in
+        let L1 = rowProduct64 n (now («row_ptr1» .entry)) (now («col_idx1» .entry)) (now (vals1 .entry)) in
+        let L2 = rowProduct64 n (now («row_ptr2» .entry)) (now («col_idx2» .entry)) (now (vals2 .entry)) in
+        let L3 = rowProduct64 n (now («row_ptr3» .entry)) (now («col_idx3» .entry)) (now (vals3 .entry)) in
+        ⌜ TermsAdded A n (22 * n) (reciprocalFactorial binary64) 6 (omega6 (onVectors A n) constants6 tau L1 L2 L3)
+        (now (work .entry)) (now (work .exit)) ⌝ }
+{
+    copy_within(work, n, 0, n);
+    for k in 0..6 {
+        let coefficient = reciprocal_factorial(k + 1);
+        taylor_term6(
+            row_ptr1,
+            col_idx1,
+            vals1,
+            row_ptr2,
+            col_idx2,
+            vals2,
+            row_ptr3,
+            col_idx3,
+            vals3,
+            tau,
+            coefficient,
+            work,
+            n,
+        );
+    }
+}
+
+// One step of order 6 (01, part 9; `apply_exp_omega6_kernel` of the Rust): dst becomes the step's answer for the signal src,
+// and the first 22n elements of work become +0.
+pub fn step6(
+    row_ptr1: &[usize],
+    col_idx1: &[u32],
+    vals1: &[f64],
+    row_ptr2: &[usize],
+    col_idx2: &[u32],
+    vals2: &[f64],
+    row_ptr3: &[usize],
+    col_idx3: &[u32],
+    vals3: &[f64],
+    tau: f64,
+    src: &[f64],
+    dst: &mut [f64],
+    work: &mut [f64],
+)
+    requires { ⌜ ValuedPattern (length (now src)) (now «row_ptr1») (now «col_idx1») (now vals1) ⌝ }
+    requires { ⌜ ValuedPattern (length (now src)) (now «row_ptr2») (now «col_idx2») (now vals2) ⌝ }
+    requires { ⌜ ValuedPattern (length (now src)) (now «row_ptr3») (now «col_idx3») (now vals3) ⌝ }
+    requires { ⌜ (length (now dst) ≡ length (now src)) × (22 * length (now src) ≤ length (now work)) ⌝ }
+    ensures { λ _. let n = length (now (src .entry)) in
+        let L1 = rowProduct64 n (now («row_ptr1» .entry)) (now («col_idx1» .entry)) (now (vals1 .entry)) in
+        let L2 = rowProduct64 n (now («row_ptr2» .entry)) (now («col_idx2» .entry)) (now (vals2 .entry)) in
+        let L3 = rowProduct64 n (now («row_ptr3» .entry)) (now («col_idx3» .entry)) (now (vals3 .entry)) in
+        ⌜ (now (dst .exit) ≡ expOmega6 binary64 n tau L1 L2 L3 (now (src .entry)))
+        × (now (work .exit) ≡ put 0 (zeros (22 * n)) (now (work .entry))) ⌝ }
+{
+    let n = src.len();
+    load(work, 0, src);
+    taylor6(
+        row_ptr1,
+        col_idx1,
+        vals1,
+        row_ptr2,
+        col_idx2,
+        vals2,
+        row_ptr3,
+        col_idx3,
+        vals3,
+        tau,
+        work,
+        n,
+    );
+    store(work, 0, dst);
+    clear(work, 22 * n);
+}

@@ -1,0 +1,392 @@
+// The parts of Ωv of order 6 (01, part 9; `apply_omega6` of the Rust), for callers that have checked their arguments. L1, L2
+// and L3 are the products with the three samples. B1, B2, B3, C1, C2 and W = 2 B3 + C1 are the operators of the formula in
+// the crate magnus (specs/Omega6.antt), and y is B1 x. The vectors of n places lie one after the other in the work slice:
+//   0, n  the sum so far and v (src/kernel.rt)
+//   2n    B1 v + B3 v / 12
+//   3n    l = (-20 B1 - B3 + C1) v
+//   4n    r = (B2 + C2) v
+//   5n    (-20 B1 - B3 + C1) r
+// From 6n on lie the vectors that are formed of one vector x, which is v, r or l:
+//   6n    L1 x, then L2 B2 x; at last (1/240) times the commutator at v
+//   7n    L2 x, then L1 y
+//   8n    L3 x, then L3 y
+//   9n    y = B1 x
+//   10n   B2 x
+//   11n   B3 x
+//   12n   B2 y
+//   13n   C1 x
+//   14n   W x, then -20 B1 x - B3 x
+//   15n   L2 W x
+//   16n   L2 y
+//   17n   L2 B2 y
+//   18n   L1 L2 y
+//   19n   L3 L2 y
+//   20n   C2 x
+//   21n   (B2 + C2) l
+// No vector is read after another has taken its place.
+ghost use mathlib.Core.Path.{_≡_};
+ghost use Prim.Native.Nat.{_+_, _*_, _≤_};
+ghost use lib.ListN.{length};
+ghost use lib.Ieee.{binary64, mul};
+ghost use Rattle.arithmetic.specs.Arithmetic.{ieee};
+ghost use Rattle.scratch.specs.Parts.{part, put};
+ghost use Rattle.graph.specs.Pattern.{ValuedPattern};
+ghost use Rattle.graph.specs.RowProduct.{rowProduct64};
+ghost use Rattle.magnus.specs.Omega6.{constants6};
+ghost use Rattle.magnus6_graph_helpers.specs.Omega6Parts.{scaledSecondDifference, twiceFirstPlus, c2Sum};
+ghost use Rattle.magnus6_graph_helpers.specs.Omega6Parts.{BFormed, C1Formed, C2Formed, LopFormed, RopFormed, AtVFormed};
+use graph::kernel::product_in;
+use scratch::kernel::add;
+use scratch::kernel::add_scaled;
+use scratch::kernel::copy_within;
+use scratch::kernel::scale_within;
+use scratch::kernel::scaled_difference;
+use scratch::kernel::scaled_less;
+
+// The constants of magnus6_graph.rs, and the factor of magnus6_graph_helpers.rs; their values are those of constants6 in
+// the crate magnus.
+const SQRT15_OVER_3: f64 = 1.290_994_448_735_805_6;
+
+const TEN_OVER_3: f64 = 10.0 / 3.0;
+
+const ONE_OVER_12: f64 = 1.0 / 12.0;
+
+const ONE_OVER_60: f64 = 1.0 / 60.0;
+
+pub const ONE_OVER_240: f64 = 1.0 / 240.0;
+
+const MINUS_TWENTY: f64 = -20.0;
+
+// B3 x from the products of x.
+fn b3_sum(work: &mut [f64], n: usize, tau: f64)
+    requires { ⌜ 22 * n ≤ length (now work) ⌝ }
+    ensures { λ _. let w = now (work .entry) in
+        let B3x = scaledSecondDifference (ieee binary64) n (mul binary64 tau (constants6 .tenOver3))
+        (part (6 * n) n w) (part (7 * n) n w) (part (8 * n) n w) in
+        ⌜ now (work .exit) ≡ put (11 * n) B3x w ⌝ }
+{
+    let a1 = 6 * n;
+    let a2 = 7 * n;
+    let a3 = 8 * n;
+    let target = 11 * n;
+    let scale = tau * TEN_OVER_3;
+    for i in 0..n {
+        work[target + i] = scale * (-work[a3 + i] + work[a2 + i] + work[a2 + i] - work[a1 + i]);
+    }
+}
+
+// W x = (B3 x + B3 x) + C1 x.
+fn w_sum(work: &mut [f64], n: usize)
+    requires { ⌜ 22 * n ≤ length (now work) ⌝ }
+    ensures { λ _. let w = now (work .entry) in
+        let Wx = twiceFirstPlus (ieee binary64) n (part (11 * n) n w) (part (13 * n) n w) in
+        ⌜ now (work .exit) ≡ put (14 * n) Wx w ⌝ }
+{
+    let b3 = 11 * n;
+    let c1 = 13 * n;
+    let target = 14 * n;
+    for i in 0..n {
+        work[target + i] = work[b3 + i] + work[b3 + i] + work[c1 + i];
+    }
+}
+
+// C2 x from products of W x, of y and of B2 y and L2 y.
+fn c2_sum(work: &mut [f64], n: usize, tau: f64)
+    requires { ⌜ 22 * n ≤ length (now work) ⌝ }
+    ensures { λ _. let w = now (work .entry) in
+        let C2x = c2Sum (ieee binary64) n constants6 tau (part (15 * n) n w) (part (7 * n) n w) (part (16 * n) n w)
+        (part (8 * n) n w) (part (17 * n) n w) (part (18 * n) n w) (part (19 * n) n w) in
+        ⌜ now (work .exit) ≡ put (20 * n) C2x w ⌝ }
+{
+    let l1_y = 7 * n;
+    let l3_y = 8 * n;
+    let l2_w = 15 * n;
+    let l2_y = 16 * n;
+    let l2_b2_y = 17 * n;
+    let l1_l2_y = 18 * n;
+    let l3_l2_y = 19 * n;
+    let target = 20 * n;
+    let two_b3_scale = (tau + tau) * TEN_OVER_3;
+    let b2_b1_scale = tau * SQRT15_OVER_3 * -tau;
+    for i in 0..n {
+        let two_b3_y = two_b3_scale
+            * (-work[l3_y + i] + work[l2_y + i] + work[l2_y + i] - work[l1_y + i]);
+        let c1_y = -tau * work[l2_b2_y + i] - b2_b1_scale * (work[l1_l2_y + i] - work[l3_l2_y + i]);
+        work[target + i] = -ONE_OVER_60 * (-tau * work[l2_w + i] - (two_b3_y + c1_y));
+    }
+}
+
+// B1 x, B2 x and B3 x, for the vector x at index `x`.
+fn form_b(
+    row_ptr1: &[usize],
+    col_idx1: &[u32],
+    vals1: &[f64],
+    row_ptr2: &[usize],
+    col_idx2: &[u32],
+    vals2: &[f64],
+    row_ptr3: &[usize],
+    col_idx3: &[u32],
+    vals3: &[f64],
+    tau: f64,
+    work: &mut [f64],
+    n: usize,
+    x: usize,
+)
+    requires { ⌜ ValuedPattern n (now «row_ptr1») (now «col_idx1») (now vals1) ⌝ }
+    requires { ⌜ ValuedPattern n (now «row_ptr2») (now «col_idx2») (now vals2) ⌝ }
+    requires { ⌜ ValuedPattern n (now «row_ptr3») (now «col_idx3») (now vals3) ⌝ }
+    requires { ⌜ (22 * n ≤ length (now work)) × (x + n ≤ 6 * n) ⌝ }
+    ensures { λ _. let w = now (work .entry) in
+        let L1 = rowProduct64 n (now («row_ptr1» .entry)) (now («col_idx1» .entry)) (now (vals1 .entry)) in
+        let L2 = rowProduct64 n (now («row_ptr2» .entry)) (now («col_idx2» .entry)) (now (vals2 .entry)) in
+        let L3 = rowProduct64 n (now («row_ptr3» .entry)) (now («col_idx3» .entry)) (now (vals3 .entry)) in
+        ⌜ BFormed (ieee binary64) n constants6 tau L1 L2 L3 (part x n w) w (now (work .exit)) ⌝ }
+{
+    // L1 x, L2 x, L3 x
+    product_in(row_ptr1, col_idx1, vals1, work, n, x, 6 * n);
+    product_in(row_ptr2, col_idx2, vals2, work, n, x, 7 * n);
+    product_in(row_ptr3, col_idx3, vals3, work, n, x, 8 * n);
+    // B1 x, B2 x, B3 x
+    scale_within(work, n, -tau, 7 * n, 9 * n);
+    scaled_difference(work, n, tau * SQRT15_OVER_3, 6 * n, 8 * n, 10 * n);
+    b3_sum(work, n, tau);
+}
+
+// These, and C1 x = B1 B2 x - B2 y.
+fn form_c1(
+    row_ptr1: &[usize],
+    col_idx1: &[u32],
+    vals1: &[f64],
+    row_ptr2: &[usize],
+    col_idx2: &[u32],
+    vals2: &[f64],
+    row_ptr3: &[usize],
+    col_idx3: &[u32],
+    vals3: &[f64],
+    tau: f64,
+    work: &mut [f64],
+    n: usize,
+    x: usize,
+)
+    requires { ⌜ ValuedPattern n (now «row_ptr1») (now «col_idx1») (now vals1) ⌝ }
+    requires { ⌜ ValuedPattern n (now «row_ptr2») (now «col_idx2») (now vals2) ⌝ }
+    requires { ⌜ ValuedPattern n (now «row_ptr3») (now «col_idx3») (now vals3) ⌝ }
+    requires { ⌜ (22 * n ≤ length (now work)) × (x + n ≤ 6 * n) ⌝ }
+    ensures { λ _. let w = now (work .entry) in
+        let L1 = rowProduct64 n (now («row_ptr1» .entry)) (now («col_idx1» .entry)) (now (vals1 .entry)) in
+        let L2 = rowProduct64 n (now («row_ptr2» .entry)) (now («col_idx2» .entry)) (now (vals2 .entry)) in
+        let L3 = rowProduct64 n (now («row_ptr3» .entry)) (now («col_idx3» .entry)) (now (vals3 .entry)) in
+        ⌜ C1Formed (ieee binary64) n constants6 tau L1 L2 L3 (part x n w) w (now (work .exit)) ⌝ }
+{
+    form_b(
+        row_ptr1,
+        col_idx1,
+        vals1,
+        row_ptr2,
+        col_idx2,
+        vals2,
+        row_ptr3,
+        col_idx3,
+        vals3,
+        tau,
+        work,
+        n,
+        x,
+    );
+    // L2 B2 x, L1 y, L3 y
+    product_in(row_ptr2, col_idx2, vals2, work, n, 10 * n, 6 * n);
+    product_in(row_ptr1, col_idx1, vals1, work, n, 9 * n, 7 * n);
+    product_in(row_ptr3, col_idx3, vals3, work, n, 9 * n, 8 * n);
+    // B2 y, C1 x
+    scaled_difference(work, n, tau * SQRT15_OVER_3, 7 * n, 8 * n, 12 * n);
+    scaled_less(work, n, -tau, 6 * n, 12 * n, 13 * n);
+}
+
+// These, and C2 x.
+fn form_c2(
+    row_ptr1: &[usize],
+    col_idx1: &[u32],
+    vals1: &[f64],
+    row_ptr2: &[usize],
+    col_idx2: &[u32],
+    vals2: &[f64],
+    row_ptr3: &[usize],
+    col_idx3: &[u32],
+    vals3: &[f64],
+    tau: f64,
+    work: &mut [f64],
+    n: usize,
+    x: usize,
+)
+    requires { ⌜ ValuedPattern n (now «row_ptr1») (now «col_idx1») (now vals1) ⌝ }
+    requires { ⌜ ValuedPattern n (now «row_ptr2») (now «col_idx2») (now vals2) ⌝ }
+    requires { ⌜ ValuedPattern n (now «row_ptr3») (now «col_idx3») (now vals3) ⌝ }
+    requires { ⌜ (22 * n ≤ length (now work)) × (x + n ≤ 6 * n) ⌝ }
+    ensures { λ _. let w = now (work .entry) in
+        let L1 = rowProduct64 n (now («row_ptr1» .entry)) (now («col_idx1» .entry)) (now (vals1 .entry)) in
+        let L2 = rowProduct64 n (now («row_ptr2» .entry)) (now («col_idx2» .entry)) (now (vals2 .entry)) in
+        let L3 = rowProduct64 n (now («row_ptr3» .entry)) (now («col_idx3» .entry)) (now (vals3 .entry)) in
+        ⌜ C2Formed (ieee binary64) n constants6 tau L1 L2 L3 (part x n w) w (now (work .exit)) ⌝ }
+{
+    form_c1(
+        row_ptr1,
+        col_idx1,
+        vals1,
+        row_ptr2,
+        col_idx2,
+        vals2,
+        row_ptr3,
+        col_idx3,
+        vals3,
+        tau,
+        work,
+        n,
+        x,
+    );
+    w_sum(work, n);
+    // L2 W x, L2 y, L2 B2 y, L1 L2 y, L3 L2 y
+    product_in(row_ptr2, col_idx2, vals2, work, n, 14 * n, 15 * n);
+    product_in(row_ptr2, col_idx2, vals2, work, n, 9 * n, 16 * n);
+    product_in(row_ptr2, col_idx2, vals2, work, n, 12 * n, 17 * n);
+    product_in(row_ptr1, col_idx1, vals1, work, n, 16 * n, 18 * n);
+    product_in(row_ptr3, col_idx3, vals3, work, n, 16 * n, 19 * n);
+    c2_sum(work, n, tau);
+}
+
+// (-20 B1 - B3 + C1) x, at 5n.
+pub fn form_lop(
+    row_ptr1: &[usize],
+    col_idx1: &[u32],
+    vals1: &[f64],
+    row_ptr2: &[usize],
+    col_idx2: &[u32],
+    vals2: &[f64],
+    row_ptr3: &[usize],
+    col_idx3: &[u32],
+    vals3: &[f64],
+    tau: f64,
+    work: &mut [f64],
+    n: usize,
+    x: usize,
+)
+    requires { ⌜ ValuedPattern n (now «row_ptr1») (now «col_idx1») (now vals1) ⌝ }
+    requires { ⌜ ValuedPattern n (now «row_ptr2») (now «col_idx2») (now vals2) ⌝ }
+    requires { ⌜ ValuedPattern n (now «row_ptr3») (now «col_idx3») (now vals3) ⌝ }
+    requires { ⌜ (22 * n ≤ length (now work)) × (x + n ≤ 5 * n) ⌝ }
+    ensures { λ _. let w = now (work .entry) in
+        let L1 = rowProduct64 n (now («row_ptr1» .entry)) (now («col_idx1» .entry)) (now (vals1 .entry)) in
+        let L2 = rowProduct64 n (now («row_ptr2» .entry)) (now («col_idx2» .entry)) (now (vals2 .entry)) in
+        let L3 = rowProduct64 n (now («row_ptr3» .entry)) (now («col_idx3» .entry)) (now (vals3 .entry)) in
+        ⌜ LopFormed (ieee binary64) n constants6 tau L1 L2 L3 (part x n w) w (now (work .exit)) ⌝ }
+{
+    form_c1(
+        row_ptr1,
+        col_idx1,
+        vals1,
+        row_ptr2,
+        col_idx2,
+        vals2,
+        row_ptr3,
+        col_idx3,
+        vals3,
+        tau,
+        work,
+        n,
+        x,
+    );
+    scaled_less(work, n, MINUS_TWENTY, 9 * n, 11 * n, 14 * n);
+    add(work, n, 14 * n, 13 * n, 5 * n);
+}
+
+// (B2 + C2) x, at 21n.
+pub fn form_rop(
+    row_ptr1: &[usize],
+    col_idx1: &[u32],
+    vals1: &[f64],
+    row_ptr2: &[usize],
+    col_idx2: &[u32],
+    vals2: &[f64],
+    row_ptr3: &[usize],
+    col_idx3: &[u32],
+    vals3: &[f64],
+    tau: f64,
+    work: &mut [f64],
+    n: usize,
+    x: usize,
+)
+    requires { ⌜ ValuedPattern n (now «row_ptr1») (now «col_idx1») (now vals1) ⌝ }
+    requires { ⌜ ValuedPattern n (now «row_ptr2») (now «col_idx2») (now vals2) ⌝ }
+    requires { ⌜ ValuedPattern n (now «row_ptr3») (now «col_idx3») (now vals3) ⌝ }
+    requires { ⌜ (22 * n ≤ length (now work)) × (x + n ≤ 6 * n) ⌝ }
+    ensures { λ _. let w = now (work .entry) in
+        let L1 = rowProduct64 n (now («row_ptr1» .entry)) (now («col_idx1» .entry)) (now (vals1 .entry)) in
+        let L2 = rowProduct64 n (now («row_ptr2» .entry)) (now («col_idx2» .entry)) (now (vals2 .entry)) in
+        let L3 = rowProduct64 n (now («row_ptr3» .entry)) (now («col_idx3» .entry)) (now (vals3 .entry)) in
+        ⌜ RopFormed (ieee binary64) n constants6 tau L1 L2 L3 (part x n w) w (now (work .exit)) ⌝ }
+{
+    form_c2(
+        row_ptr1,
+        col_idx1,
+        vals1,
+        row_ptr2,
+        col_idx2,
+        vals2,
+        row_ptr3,
+        col_idx3,
+        vals3,
+        tau,
+        work,
+        n,
+        x,
+    );
+    add(work, n, 10 * n, 20 * n, 21 * n);
+}
+
+// B1 v + B3 v / 12, l and r.
+pub fn form_at_v(
+    row_ptr1: &[usize],
+    col_idx1: &[u32],
+    vals1: &[f64],
+    row_ptr2: &[usize],
+    col_idx2: &[u32],
+    vals2: &[f64],
+    row_ptr3: &[usize],
+    col_idx3: &[u32],
+    vals3: &[f64],
+    tau: f64,
+    work: &mut [f64],
+    n: usize,
+)
+    requires { ⌜ ValuedPattern n (now «row_ptr1») (now «col_idx1») (now vals1) ⌝ }
+    requires { ⌜ ValuedPattern n (now «row_ptr2») (now «col_idx2») (now vals2) ⌝ }
+    requires { ⌜ ValuedPattern n (now «row_ptr3») (now «col_idx3») (now vals3) ⌝ }
+    requires { ⌜ 22 * n ≤ length (now work) ⌝ }
+    ensures { λ _. let w = now (work .entry) in
+        let L1 = rowProduct64 n (now («row_ptr1» .entry)) (now («col_idx1» .entry)) (now (vals1 .entry)) in
+        let L2 = rowProduct64 n (now («row_ptr2» .entry)) (now («col_idx2» .entry)) (now (vals2 .entry)) in
+        let L3 = rowProduct64 n (now («row_ptr3» .entry)) (now («col_idx3» .entry)) (now (vals3 .entry)) in
+        ⌜ AtVFormed (ieee binary64) n constants6 tau L1 L2 L3 (part n n w) w (now (work .exit)) ⌝ }
+{
+    form_c2(
+        row_ptr1,
+        col_idx1,
+        vals1,
+        row_ptr2,
+        col_idx2,
+        vals2,
+        row_ptr3,
+        col_idx3,
+        vals3,
+        tau,
+        work,
+        n,
+        n,
+    );
+    // B1 v + B3 v / 12
+    copy_within(work, n, 9 * n, 2 * n);
+    add_scaled(work, n, ONE_OVER_12, 11 * n, 2 * n);
+    // l, r
+    scaled_less(work, n, MINUS_TWENTY, 9 * n, 11 * n, 14 * n);
+    add(work, n, 14 * n, 13 * n, 3 * n);
+    add(work, n, 10 * n, 20 * n, 4 * n);
+}
