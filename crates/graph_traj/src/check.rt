@@ -127,7 +127,7 @@ pub fn check_laws(laws: &[u8]) -> Checked
 }
 
 // The first place whose value is not finite, or the number of values.
-fn first_not_finite(values: &[f64]) -> usize
+pub fn first_not_finite(values: &[f64]) -> usize
     ensures { λ r. ⌜ r ≡ first (notFiniteAt (now (values .entry))) (length (now (values .entry))) ⌝ }
 {
     let mut k = 0;

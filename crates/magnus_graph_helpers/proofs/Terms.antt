@@ -139,6 +139,37 @@ module _ {K : Type 0} (A : Arithmetic K) (n : ℕ) where
       (λ k h. fourth .rest k h ∙ third .rest k h ∙ second .rest k h ∙ first .rest k h)
       formed sum
 
+  -- Where both samples are one, a = P v and d = P a over v do: a is b, and d is c. The difference c - d is formed all the same.
+  pub omega4-constant-formed : {used : ℕ} (minusHalf s sign τ : K) (P : Operator A n) {w w₁ w₂ : List K}
+      → ProductPlaced used n (2 *ℕ n) P w w₁
+      → ProductPlaced used (2 *ℕ n) n P w₁ w₂
+      → omega4Sum A n (minusHalf * τ) (sign * s * τ * τ)
+      (part (2 *ℕ n) n w₂) (part (2 *ℕ n) n w₂) (part n n w₂) (part n n w₂)
+      ≡ omega4 A n minusHalf s sign τ P P (part n n w)
+  omega4-constant-formed minusHalf s sign τ P {w = w} first second =
+      let a = second .apart (2 *ℕ n) (omega arith) (omega arith) ∙ first .here in
+      let d = second .here ∙ ap P (first .here) in
+      (λ j. omega4Sum A n (minusHalf * τ) (sign * s * τ * τ) (a j) (a j) (d j) (d j))
+      ∙ omega4-sum A n minusHalf s sign τ P P (part n n w)
+
+  -- two products and Ωv of them make a term of order 4 of one sample
+  pub term4-constant-added : (used : ℕ) (minusHalf s sign τ coefficient : K) (P : Operator A n) (w w₁ w₂ w₃ w′ : List K)
+      → 3 *ℕ n ≤ length w
+      → 3 *ℕ n ≤ used
+      → ProductPlaced used n (2 *ℕ n) P w w₁
+      → ProductPlaced used (2 *ℕ n) n P w₁ w₂
+      → w₃ ≡ put n (omega4Sum A n (minusHalf * τ) (sign * s * τ * τ)
+      (part (2 *ℕ n) n w₂) (part (2 *ℕ n) n w₂) (part n n w₂) (part n n w₂)) w₂
+      → w′ ≡ put 0 (plusScaled A n (part 0 n w₃) coefficient (part n n w₃)) w₃
+      → TermAdded A n used (omega4 A n minusHalf s sign τ P P) coefficient w w′
+  term4-constant-added used minusHalf s sign τ coefficient P w w₁ w₂ w₃ w′ room within first second formed sum =
+      term-added used (omega4 A n minusHalf s sign τ P P) coefficient _ w w₂ w₃ w′ (omega arith) (omega arith)
+      (omega4-constant-formed minusHalf s sign τ P first second) (length-omega4-sum _ _ _ _ _ _)
+      (second .apart 0 (omega arith) (omega arith) ∙ first .apart 0 (omega arith) (omega arith))
+      (second .length-kept ∙ first .length-kept)
+      (λ k h. second .rest k h ∙ first .rest k h)
+      formed sum
+
   -- ---- the terms
 
   module _ (used : ℕ) (c : ℕ → K) (W : Operator A n) (w₀ : List K) where

@@ -1,2 +1,3 @@
 pub mod RunSteps
 pub mod RunOutcome
+pub mod RunStepTaken
