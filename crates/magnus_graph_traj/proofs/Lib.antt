@@ -1,1 +1,4 @@
 pub mod RunStep
+pub mod StepsTaken
+pub mod SampledFormat
+pub mod RunOutcome

@@ -1,3 +1,5 @@
 pub mod RunSteps
+pub mod RunStepTaken
+pub mod StepsTaken
 pub mod RunOutcome
 pub mod RunStepTaken
