@@ -1,4 +1,6 @@
 pub mod RunStep
 pub mod StepsTaken
+pub mod Walk
 pub mod SampledFormat
 pub mod RunOutcome
+pub mod AcceptedRuns

@@ -99,7 +99,7 @@ module _ {t : Trajectory} {course : Course} {sign : Float} where
       let same : StepAt t k (segmentAt t course k j) (course .start (record { segment = k; number = j })) sign answer w w′ =
       subst₂ (λ (s : Segment) (b : Float). StepAt t k s b sign answer w w′) here at taken in
       record {
-        answer-is = same .answer-is ∙ accepted-last _;
+        answer-is = same .answer ∙ accepted-last _;
         held = same .taken;
         length-kept = same .length-kept;
         rest = same .rest;

@@ -2,4 +2,3 @@ pub mod RunSteps
 pub mod RunStepTaken
 pub mod StepsTaken
 pub mod RunOutcome
-pub mod RunStepTaken

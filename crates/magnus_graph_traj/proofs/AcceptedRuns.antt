@@ -1,0 +1,100 @@
+-- What the two calls know once their checks have accepted: what the loops ask, and what the outcome asks. Assumes nothing.
+use mathlib.Core.Path.{_≡_, sym, _∙_}
+use mathlib.Core.Bool.{Bool, false}
+use mathlib.Core.List.{List, [], _++_}
+use Prim.Native.Nat.{ℕ, zero, suc, _+_, _<_}
+use native.Mathlib.Omega.{arith}
+use lib.Dec.{T, eqb}
+use lib.ListN.{length, length-append}
+use lib.Ieee.{Float, binary64, fits}
+use lib.Ieee.Fits.{div-fits}
+use borrow.Author.Tests.{ne-eqb}
+use Rattle.arithmetic.specs.Vector.{tabulate}
+use Rattle.arithmetic.proofs.Tabulate.{length-tabulate}
+use Rattle.error.specs.declared.Checked.{Checked}
+use Rattle.error.specs.declared.Checked.the-variants.{Accepted}
+use Rattle.magnus.specs.Agree.{OfFormat}
+use Rattle.graph_traj.specs.Times.{segmentTau}
+use Rattle.graph_traj.specs.Trajectory.{Trajectory}
+use Rattle.graph_traj_checks.specs.AcceptedRun.{AcceptedRun, AcceptedAdjointRun}
+use Rattle.graph_traj_checks.proofs.RunSound.{run-accepted, adjoint-run-accepted}
+use Rattle.magnus_graph_traj.specs.RunSteps.{segmentSteps, allSteps}
+use Rattle.magnus_graph_traj.specs.RunOutcome.{Run, forwardRun, adjointRun}
+use Rattle.magnus_graph_traj.proofs.RunOutcome.{RunOfFormat, RunLengths}
+
+-- ---- how many steps
+
+segment-count : (i steps : ℕ) → length (segmentSteps i steps) ≡ steps
+segment-count i steps = length-tabulate _ steps
+
+-- a forward run has a step
+some-forward : (steps segments : ℕ) → 0 < steps → 0 < segments → eqb (length (allSteps steps segments)) 0 ≡ false
+unfolding allSteps
+some-forward steps zero l k = absurd (omega arith)
+some-forward steps (suc i) l k =
+    let before = allSteps steps i in
+    let count : length (before ++ segmentSteps i steps) ≡ length before + length (segmentSteps i steps) = length-append before _ in
+    ne-eqb (length (before ++ segmentSteps i steps)) 0 (λ e. omega (arith, e, count, segment-count i steps, l))
+
+-- ---- what a call is lent
+
+pub record Lent : Type 0 where
+  pub along : Trajectory
+  pub steps : ℕ
+  pub bound : Float
+  pub checked : Bool
+  pub signal : List Float
+  pub output : List Float
+  pub work : List Float
+
+-- the forward run, and the adjoint run with steps of length τ
+abbrev pub forwardOf : Lent → Run
+forwardOf a = forwardRun (a .along) (a .steps) (a .bound) (a .checked) (a .signal) (a .output) (a .work)
+
+abbrev pub adjointOf : Float → Lent → Run
+adjointOf τ a = adjointRun (a .along) τ (a .steps) (a .bound) (a .checked) (a .signal) (a .output) (a .work)
+
+-- ---- the forward run
+
+module _ (a : Lent) {check : Checked} (made : check ≡ forwardOf a .checks) (accepted : check ≡ Accepted) where
+  pub forward-accepted : AcceptedRun (a .along) (a .steps) (a .bound) (a .checked) (length (a .signal)) (length (a .output)) (length (a .work))
+  forward-accepted = run-accepted (a .along) (a .steps) (a .bound) (a .checked) _ _ _ .0 (sym made ∙ accepted)
+
+  pub forward-lengths : RunLengths (forwardOf a)
+  forward-lengths =
+      let s = forward-accepted .signals in
+      record { of-signal = s .signal-length; of-output = s .output-length }
+
+  pub forward-some : eqb (length (allSteps (a .steps) (a .along .segments))) 0 ≡ false
+  forward-some =
+      some-forward (a .steps) (a .along .segments) (forward-accepted .some-steps) (forward-accepted .along .times .some-segments)
+
+pub forward-format : (a : Lent) → OfFormat binary64 (a .along .starts) → OfFormat binary64 (a .along .ends) → RunOfFormat (forwardOf a)
+unfolding segmentTau
+forward-format a p q = record { of-starts = p; of-ends = q; of-tau = λ s. div-fits binary64 _ _ }
+
+-- ---- the adjoint run
+
+module _ (τ : Float) (a : Lent) {check : Checked} (made : check ≡ adjointOf τ a .checks) (accepted : check ≡ Accepted) where
+  pub adjoint-accepted : AcceptedAdjointRun (a .along) τ (a .steps) (a .bound) (a .checked) (length (a .signal)) (length (a .output)) (length (a .work))
+  adjoint-accepted = adjoint-run-accepted (a .along) τ (a .steps) (a .bound) (a .checked) _ _ _ .0 (sym made ∙ accepted)
+
+  pub adjoint-lengths : RunLengths (adjointOf τ a)
+  adjoint-lengths =
+      let s = adjoint-accepted .signals in
+      record { of-signal = s .signal-length; of-output = s .output-length }
+
+-- with steps and with none
+pub adjoint-some : (steps : ℕ) → 0 < steps → eqb (length (segmentSteps 0 steps)) 0 ≡ false
+adjoint-some steps l = ne-eqb (length (segmentSteps 0 steps)) 0 (λ e. omega (arith, e, segment-count 0 steps, l))
+
+pub adjoint-none : (steps : ℕ) → steps ≡ 0 → segmentSteps 0 steps ≡ []
+unfolding tabulate
+adjoint-none steps e = rw e
+
+pub adjoint-format : (τ : Float) (a : Lent)
+    → OfFormat binary64 (a .along .starts)
+    → OfFormat binary64 (a .along .ends)
+    → T (fits binary64 τ)
+    → RunOfFormat (adjointOf τ a)
+adjoint-format τ a p q f = record { of-starts = p; of-ends = q; of-tau = λ s. f }

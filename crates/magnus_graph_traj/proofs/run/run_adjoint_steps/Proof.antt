@@ -1,0 +1,138 @@
+-- `run_adjoint_steps` meets its contract: each turn takes the next step of the one segment, whose value counts them. Assumes
+-- nothing.
+use mathlib.Core.Path.{refl}
+use Prim.Native.Nat.{_-_}
+use native.Mathlib.Omega.{arith}
+use Rattle.magnus_graph.specs.StepOutcome.{adjoint}
+use Rattle.graph_traj.specs.declared.kernel.Segment.{Segment}
+use Rattle.graph_traj.specs.Times.{adjointStepStart}
+use Rattle.graph_traj.specs.Trajectory.{trajectory}
+use Rattle.magnus_graph_traj.specs.RunSteps.{adjointCourse}
+use Rattle.magnus_graph_traj.proofs.Walk.{StepsWalked, steps-begin, step-number, steps-end, steps-on, steps-stop}
+use borrow.Author.Needs.{needs}
+use Rattle.magnus_graph_traj.proofs.run.run_adjoint_steps.Statement.{statement}
+use Rattle.magnus_graph_traj.proofs.run.run_adjoint_steps.Tie as tie
+
+abbrev Inv-loop : tie.InvT-loop
+Inv-loop n row-ptr col-idx segments breakpoints starts ends laws tau steps work₀ segment₀ counter₀ work segment counter =
+    let t = trajectory n row-ptr col-idx segments breakpoints starts ends laws in
+    StepsWalked t (adjointCourse tau steps) adjoint 0 steps counter work₀ work segment
+
+abbrev μ-loop : tie.MeasureT-loop
+μ-loop n row-ptr col-idx segments breakpoints starts ends laws tau steps work₀ segment₀ counter₀ work segment counter =
+    steps - counter
+
+shared-slice-read-with-tau : tie.Need-shared-slice-read-with-tau Inv-loop μ-loop
+shared-slice-read-with-tau c =
+    let start = c .before .before .before .before .before .before .before .before in
+    omega (arith, start .pre .0 .times .count)
+
+shared-slice-read-with-tau-2 : tie.Need-shared-slice-read-with-tau-2 Inv-loop μ-loop
+shared-slice-read-with-tau-2 c =
+    let start = c .before .before .before .before .before .before .before .before .before in
+    omega (arith, start .pre .0 .times .count, start .pre .0 .times .some-segments)
+
+with-tau-requires : tie.Need-with-tau-requires Inv-loop μ-loop
+with-tau-requires c κs =
+    tt
+
+loop-holds : tie.Need-loop-holds Inv-loop μ-loop
+loop-holds c =
+    steps-begin _ _ (c .with-tau .ensures)
+
+adjoint-step-start-requires : tie.Need-adjoint-step-start-requires Inv-loop μ-loop
+adjoint-step-start-requires c κs =
+    let head = c .before in
+    let start = head .before .before .before .before .before .before .before .before .before .before .before in
+    (omega (arith, step-number (head .loop .inv), c .loop-test .taken), start .pre .1 .0)
+
+step-at-requires : tie.Need-step-at-requires Inv-loop μ-loop
+step-at-requires c κs =
+    let head = c .before .before .before in
+    let start = head .before .before .before .before .before .before .before .before .before .before .before in
+    (start .pre .0, (start .pre .0 .times .some-segments, omega (arith, start .pre .1 .1, head .loop .inv .walked .taken .length-kept)))
+
+enum-told : tie.Need-enum-told Inv-loop μ-loop
+enum-told c =
+    search needs
+
+enum-told-2 : tie.Need-enum-told-2 Inv-loop μ-loop
+enum-told-2 c =
+    search needs
+
+same-length : tie.Need-same-length Inv-loop μ-loop
+same-length c =
+    let taken = c .before .before .before .before in
+    let head = taken .before .before .before .before in
+    omega (arith, taken .step-at .ensures .length-kept, head .loop .inv .walked .taken .length-kept)
+
+returns : tie.Need-returns Inv-loop μ-loop
+returns c =
+    let taken = c .before .before .before .before in
+    let begun = taken .before .before in
+    let test = begun .before in
+    let head = test .before in
+    let start = head .before .before .before .before .before .before .before .before .before .before .before in
+    steps-stop (head .loop .inv) (λ s. adjointStepStart (s .tau) (start .args .steps) (s .step)) refl (test .loop-test .taken) (begun .adjoint-step-start .ensures)
+    (taken .step-at .ensures) (c .enum-told2 .given .1)
+
+next-requires : tie.Need-next-requires Inv-loop μ-loop
+next-requires c κs =
+    let head = c .before .before .before .before .before .before .before .before in
+    let start = head .before .before .before .before .before .before .before .before .before .before .before in
+    omega (arith, step-number (head .loop .inv), head .loop .inv .walked .within, start .pre .1 .0)
+
+add-counter : tie.Need-add-counter Inv-loop μ-loop
+add-counter c =
+    let test = c .before .before .before .before .before .before .before .before in
+    let start = test .before .before .before .before .before .before .before .before .before .before .before .before in
+    omega (arith, test .loop-test .taken, start .pre .1 .0)
+
+loop-less : tie.Need-loop-less Inv-loop μ-loop
+loop-less c =
+    let test = c .before .before .before .before .before .before .before .before in
+    omega (arith, test .loop-test .taken)
+
+loop-again : tie.Need-loop-again Inv-loop μ-loop
+loop-again c =
+    let told = c .before in
+    let taken = told .before .before .before .before in
+    let begun = taken .before .before in
+    let test = begun .before in
+    let head = test .before in
+    let start = head .before .before .before .before .before .before .before .before .before .before .before in
+    steps-on (head .loop .inv) (λ s. adjointStepStart (s .tau) (start .args .steps) (s .step)) refl (test .loop-test .taken) (begun .adjoint-step-start .ensures)
+    (taken .step-at .ensures) refl (c .next .ensures) (told .enum-told .given .1)
+
+same-length-2 : tie.Need-same-length-2 Inv-loop μ-loop
+same-length-2 c =
+    let head = c .before in
+    omega (arith, head .loop .inv .walked .taken .length-kept)
+
+returns-2 : tie.Need-returns-2 Inv-loop μ-loop
+returns-2 c =
+    let head = c .before in
+    steps-end (head .loop .inv) (c .loop-test .left)
+
+pub run-adjoint-steps-spec : {M : Type 1} → statement M
+run-adjoint-steps-spec =
+    tie.close
+    (tie.spec
+    Inv-loop
+    μ-loop
+    shared-slice-read-with-tau
+    shared-slice-read-with-tau-2
+    with-tau-requires
+    loop-holds
+    adjoint-step-start-requires
+    step-at-requires
+    enum-told
+    enum-told-2
+    same-length
+    returns
+    next-requires
+    add-counter
+    loop-less
+    loop-again
+    same-length-2
+    returns-2)
