@@ -75,8 +75,8 @@ pub fn product_in(
     }
 }
 
-// The same with values, as many as columns, that lie in the work slice too: at `values`, wholly before or after the
-// target.
+// The same, also two rows a turn, with values that lie in the work slice too: at `values`, as many as columns, wholly
+// before or after the target.
 pub fn product_valued_in(
     row_ptr: &[usize],
     col_idx: &[u32],
@@ -98,7 +98,27 @@ pub fn product_valued_in(
 {
     let values_end = values + col_idx.len();
     let source_end = source + n;
-    for i in 0..n {
+    let mut i = 0;
+    while i + 1 < n {
+        let acc = row_sum(
+            row_ptr,
+            col_idx,
+            &work[values..values_end],
+            &work[source..source_end],
+            i,
+        );
+        let next_acc = row_sum(
+            row_ptr,
+            col_idx,
+            &work[values..values_end],
+            &work[source..source_end],
+            i + 1,
+        );
+        work[target + i] = acc;
+        work[target + (i + 1)] = next_acc;
+        i = i + 2;
+    }
+    if i < n {
         let acc = row_sum(
             row_ptr,
             col_idx,

@@ -41,7 +41,7 @@ agree-same f (a ∷ x) (b ∷ y) p q t =
 
 -- ---- values of the format
 
-tabulate-of-format : (f : Format) (g : ℕ → Float) (n : ℕ) → ((i : ℕ) → T (fits f (g i))) → OfFormat f (tabulate g n)
+pub tabulate-of-format : (f : Format) (g : ℕ → Float) (n : ℕ) → ((i : ℕ) → T (fits f (g i))) → OfFormat f (tabulate g n)
 tabulate-of-format f g n h i = elim (decLt i n) [
   | yes l ↦ rw (getD-tabulate g n i nan l) (h i)
   | no l ↦

@@ -57,7 +57,8 @@ adjointOf τ a = adjointRun (a .along) τ (a .steps) (a .bound) (a .checked) (a 
 -- ---- the forward run
 
 module _ (a : Lent) {check : Checked} (made : check ≡ forwardOf a .checks) (accepted : check ≡ Accepted) where
-  pub forward-accepted : AcceptedRun (a .along) (a .steps) (a .bound) (a .checked) (length (a .signal)) (length (a .output)) (length (a .work))
+  pub forward-accepted :
+      AcceptedRun (a .along) (a .steps) (a .bound) (a .checked) (length (a .signal)) (length (a .output)) (length (a .work))
   forward-accepted = run-accepted (a .along) (a .steps) (a .bound) (a .checked) _ _ _ .0 (sym made ∙ accepted)
 
   pub forward-lengths : RunLengths (forwardOf a)
@@ -76,7 +77,8 @@ forward-format a p q = record { of-starts = p; of-ends = q; of-tau = λ s. div-f
 -- ---- the adjoint run
 
 module _ (τ : Float) (a : Lent) {check : Checked} (made : check ≡ adjointOf τ a .checks) (accepted : check ≡ Accepted) where
-  pub adjoint-accepted : AcceptedAdjointRun (a .along) τ (a .steps) (a .bound) (a .checked) (length (a .signal)) (length (a .output)) (length (a .work))
+  pub adjoint-accepted :
+      AcceptedAdjointRun (a .along) τ (a .steps) (a .bound) (a .checked) (length (a .signal)) (length (a .output)) (length (a .work))
   adjoint-accepted = adjoint-run-accepted (a .along) τ (a .steps) (a .bound) (a .checked) _ _ _ .0 (sym made ∙ accepted)
 
   pub adjoint-lengths : RunLengths (adjointOf τ a)

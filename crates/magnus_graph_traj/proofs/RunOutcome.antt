@@ -2,7 +2,7 @@
 use mathlib.Core.Path.{_≡_, refl, sym, ap, _∙_, subst}
 use mathlib.Core.Bool.{false}
 use mathlib.Core.List.{List, []}
-use Prim.Native.Nat.{ℕ, _+_, _*_, _≤_}
+use Prim.Native.Nat.{ℕ, _≤_}
 use native.Mathlib.Omega.{arith}
 use lib.Dec.{T, eqb}
 use lib.ListN.{length, drop}
@@ -28,7 +28,7 @@ use Rattle.magnus_graph_helpers.proofs.StepSound.{refused-not-accepted}
 use Rattle.graph_traj.specs.Times.{c1, c2}
 use Rattle.graph_traj.specs.Trajectory.{Trajectory}
 use Rattle.graph_traj_checks.specs.RunChecks.{runNeed}
-use Rattle.magnus_graph_traj.specs.RunSteps.{RunStep, Course, runStepFault, runStepImage, formedRunStep, stepAgrees, plainStep}
+use Rattle.magnus_graph_traj.specs.RunSteps.{RunStep, runStepFault, runStepImage, formedRunStep, stepAgrees, plainStep}
 use Rattle.magnus_graph_traj.specs.RunSteps.{firstFault}
 use Rattle.magnus_graph_traj.specs.StepsTaken.{StepsTaken}
 use Rattle.magnus_graph_traj.specs.RunOutcome.{Run, runAnswer, PlainRun, Ran}

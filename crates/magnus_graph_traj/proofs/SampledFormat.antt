@@ -5,26 +5,17 @@ use mathlib.Core.List.{List}
 use Prim.Native.Nat.{ℕ, _*_, _≤_}
 use native.Mathlib.Decide.{decLt}
 use native.Mathlib.Omega.{arith}
-use lib.Dec.{T, eqb}
-use lib.ListN.{length, getD, length-take, length-drop, List·getD-eq-default}
-use lib.Ieee.{Float, nan, binary64, fits}
+use lib.Dec.{eqb}
+use lib.ListN.{length, length-take, length-drop, List·getD-eq-default}
+use lib.Ieee.{Float, nan, binary64}
 use lib.Ieee.Fits.{add-fits, nan-fits}
-use Rattle.arithmetic.specs.Vector.{tabulate}
-use Rattle.arithmetic.proofs.Tabulate.{length-tabulate, getD-tabulate}
 use Rattle.scratch.specs.Parts.{part}
 use Rattle.scratch.proofs.Parts.{getD-part}
 use Rattle.magnus.specs.Agree.{OfFormat}
+use Rattle.magnus.proofs.Agree.{tabulate-of-format}
 use Rattle.graph_traj.specs.Laws.{lawValue, lawValues, byLaw, valuesAt}
 use Rattle.graph_traj.specs.Trajectory.{Trajectory}
 use Rattle.magnus_graph_traj.specs.RunSteps.{RunStep, Course, sampleAt}
-
-tabulate-of-format : (g : ℕ → Float) (n : ℕ) → ((i : ℕ) → T (fits binary64 (g i))) → OfFormat binary64 (tabulate g n)
-tabulate-of-format g n h i = elim (decLt i n) [
-  | yes l ↦ rw (getD-tabulate g n i nan l) (h i)
-  | no l ↦
-      let past : length (tabulate g n) ≤ i = rw (length-tabulate g n) (omega arith) in
-      rw (List·getD-eq-default (tabulate g n) nan past) (nan-fits binary64)
-]
 
 -- a part of a list
 part-of-format : (at n : ℕ) (w : List Float) → OfFormat binary64 w → OfFormat binary64 (part at n w)
@@ -45,7 +36,7 @@ values-of-format : (law m : ℕ) (f : Float) (x y : List Float) → OfFormat bin
     → OfFormat binary64 (valuesAt law m f x y)
 unfolding valuesAt byLaw lawValues lawValue
 values-of-format law m f x y p q =
-    one-of-format (eqb law 0) _ _ p (one-of-format (eqb law 1) _ _ q (tabulate-of-format _ m (λ i. add-fits binary64 _ _)))
+    one-of-format (eqb law 0) _ _ p (one-of-format (eqb law 1) _ _ q (tabulate-of-format binary64 _ m (λ i. add-fits binary64 _ _)))
 
 -- the values of a sample, whose pools are of the format
 pub sample-of-format : (t : Trajectory) (course : Course) → OfFormat binary64 (t .starts) → OfFormat binary64 (t .ends)

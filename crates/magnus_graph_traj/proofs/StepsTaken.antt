@@ -5,18 +5,14 @@ use mathlib.Core.Logic.{inl, ⊎-elim}
 use mathlib.Core.List.{List, [], _∷_, _++_}
 use Prim.Native.Nat.{ℕ, zero, suc, _+_, _≤_, _<_}
 use native.Mathlib.Nat.{eq-or-lt-of-le, le-of-suc-le-suc}
-use native.Mathlib.Numerals.{add-one}
 use native.Mathlib.Omega.{arith}
-use lib.ListN.{length, drop}
 use lib.Ieee.{Float}
 use Rattle.arithmetic.specs.Vector.{tabulate}
-use Rattle.arithmetic.proofs.Tabulate.{tabulate-none}
-use Rattle.scratch.specs.Parts.{part}
 use Rattle.error.specs.Checks.{next}
 use Rattle.error.specs.declared.Refusal.{Refusal}
 use Rattle.error.specs.declared.Checked.{Checked}
 use Rattle.error.specs.declared.Checked.the-variants.{Accepted, Refused}
-use Rattle.error.proofs.Checks.{next-accepted, next-refused, next-assoc, accepted-then}
+use Rattle.error.proofs.Checks.{next-refused, next-assoc, accepted-then}
 use Rattle.magnus.specs.Run.{runAlong}
 use Rattle.graph_traj.specs.declared.kernel.Segment.{Segment}
 use Rattle.graph_traj.specs.Lookup.{breakpoint}

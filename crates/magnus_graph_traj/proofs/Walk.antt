@@ -1,7 +1,6 @@
 -- How a loop of a run walks: over the steps of a segment, or over the segments. The list of steps that it is to take grows turn by
 -- turn, and it keeps `Walked`, that the steps of the turns so far were taken and none refused. Assumes nothing.
 use mathlib.Core.Path.{_≡_, refl, sym, ap, _∙_, subst, subst₂}
-use mathlib.Core.Bool.{true}
 use mathlib.Core.List.{List, [], _∷_, _++_}
 use Prim.Native.Nat.{ℕ, suc, _+_, _*_, _≤_, _<_}
 use native.Mathlib.Numerals.{add-one}

@@ -80,8 +80,9 @@ pub fn evolve_with_traj_into(
 }
 
 // The adjoint run in the one segment of its trajectory: dst becomes src after `steps` steps of length tau, the last first, with the
-// commutator's sign reversed. Refused before the first step by rows 6, 1 to 4, 13, 14, 15, 17, 19, 5, 9, 16, 7, 8 and 10; with no steps,
-// by rows 6 to 9 of these and 10 for src and dst alone. No steps copy src, and leave work as it was.
+// commutator's sign reversed. Refused before the first step by rows 6, 1 to 4, 13, 14, 15, 17, 19, 5, 9, 16, 7, 8 and 10; what a refusal
+// and the steps leave is as in the forward run. No steps copy src and leave work as it was; they do not meet rows 16, 7 and 8, nor row 10
+// for work.
 pub fn evolve_state_adjoint_into(
     n: usize,
     row_ptr: &[usize],

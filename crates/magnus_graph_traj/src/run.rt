@@ -7,9 +7,9 @@ ghost use Rattle.graph_traj_checks.specs.RunChecks.{runNeed};
 ghost use Rattle.magnus_graph.specs.StepOutcome.{forward, adjoint};
 ghost use Rattle.magnus_graph_traj.specs.RunSteps.{segmentSteps, allSteps, forwardCourse, adjointCourse};
 ghost use Rattle.magnus_graph_traj.specs.StepsTaken.{StepAt, StepsTaken};
+use crate::kernel::run_step;
 use error::Checked;
 use graph_traj::kernel::Segment;
-use crate::kernel::run_step;
 
 // One step in segment k, which starts at t_start (`apply_magnus_k4_with_fn` of the Rust): the held signal becomes its image. sign is 1
 // forward and -1 adjoint.

@@ -2,16 +2,15 @@
 -- signal is loaded into the work slice, the steps are taken there, what is held after the last is stored, and the needed part of the
 -- work slice is cleared. With no steps the signal is copied. Demand 3 follows from the definitions. Assumes nothing.
 use mathlib.Core.Path.{sym, ap, _∙_, subst}
-use mathlib.Core.List.{List}
 use Prim.Native.Nat.{ℕ, _<_}
 use lib.Dec.{T}
-use lib.Ieee.{Float}
 use Rattle.scratch.specs.Parts.{part}
 use Rattle.scratch.proofs.Parts.{part-whole}
 use native.Mathlib.Omega.{arith}
 use Rattle.graph_traj.specs.Trajectory.{trajectory}
 use Rattle.magnus_graph_traj.proofs.RunOutcome.{run-refused, run-copied, run-stopped, run-done}
-use Rattle.magnus_graph_traj.proofs.AcceptedRuns.{Lent, adjointOf, adjoint-accepted, adjoint-lengths, adjoint-some, adjoint-none, adjoint-format}
+use Rattle.magnus_graph_traj.proofs.AcceptedRuns.{Lent, adjointOf, adjoint-accepted, adjoint-lengths, adjoint-some}
+use Rattle.magnus_graph_traj.proofs.AcceptedRuns.{adjoint-none, adjoint-format}
 use borrow.Author.Needs.{needs}
 use Rattle.magnus_graph_traj.proofs.evolve_state_adjoint_into.Statement.{statement}
 use Rattle.magnus_graph_traj.proofs.evolve_state_adjoint_into.Tie as tie
@@ -160,7 +159,8 @@ returns-3 c =
     let yes = told .enum-told .given .1 in
     let format = adjoint-format (start .args .tau) (lent start) (starts .shared-slice-known4 .given) (ends .shared-slice-known5 .given)
     (subst T (sym (start .good .1 .1 .1 .1 .1 .1 .1 .1 .0 .1)) tt) in
-    run-stopped (adjointOf (start .args .tau) (lent start)) check yes (adjoint-lengths (start .args .tau) (lent start) check yes) format (adjoint-some (start .args .steps) some)
+    run-stopped (adjointOf (start .args .tau) (lent start)) check yes
+    (adjoint-lengths (start .args .tau) (lent start) check yes) format (adjoint-some (start .args .steps) some)
     (adjoint-accepted (start .args .tau) (lent start) check yes .room some) _ _ _ (loaded .load .ensures) (taken .run-adjoint-steps .ensures)
     (cleared .clear .ensures) (stopped .enum-told4 .given .1)
 
@@ -212,7 +212,8 @@ returns-4 c =
     let yes = told .enum-told .given .1 in
     let format = adjoint-format (start .args .tau) (lent start) (starts .shared-slice-known4 .given) (ends .shared-slice-known5 .given)
     (subst T (sym (start .good .1 .1 .1 .1 .1 .1 .1 .1 .0 .1)) tt) in
-    run-done (adjointOf (start .args .tau) (lent start)) check yes (adjoint-lengths (start .args .tau) (lent start) check yes) format (adjoint-some (start .args .steps) some)
+    run-done (adjointOf (start .args .tau) (lent start)) check yes
+    (adjoint-lengths (start .args .tau) (lent start) check yes) format (adjoint-some (start .args .steps) some)
     (adjoint-accepted (start .args .tau) (lent start) check yes .room some) _ _ _ (loaded .load .ensures) (taken .run-adjoint-steps .ensures)
     (cleared .clear2 .ensures) (went .enum-told3 .given .1) (stored .store2 .ensures)
 

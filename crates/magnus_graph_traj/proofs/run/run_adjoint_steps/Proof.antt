@@ -4,7 +4,6 @@ use mathlib.Core.Path.{refl}
 use Prim.Native.Nat.{_-_}
 use native.Mathlib.Omega.{arith}
 use Rattle.magnus_graph.specs.StepOutcome.{adjoint}
-use Rattle.graph_traj.specs.declared.kernel.Segment.{Segment}
 use Rattle.graph_traj.specs.Times.{adjointStepStart}
 use Rattle.graph_traj.specs.Trajectory.{trajectory}
 use Rattle.magnus_graph_traj.specs.RunSteps.{adjointCourse}
@@ -73,8 +72,8 @@ returns c =
     let test = begun .before in
     let head = test .before in
     let start = head .before .before .before .before .before .before .before .before .before .before .before in
-    steps-stop (head .loop .inv) (λ s. adjointStepStart (s .tau) (start .args .steps) (s .step)) refl (test .loop-test .taken) (begun .adjoint-step-start .ensures)
-    (taken .step-at .ensures) (c .enum-told2 .given .1)
+    steps-stop (head .loop .inv) (λ s. adjointStepStart (s .tau) (start .args .steps) (s .step)) refl (test .loop-test .taken)
+    (begun .adjoint-step-start .ensures) (taken .step-at .ensures) (c .enum-told2 .given .1)
 
 next-requires : tie.Need-next-requires Inv-loop μ-loop
 next-requires c κs =
@@ -101,8 +100,8 @@ loop-again c =
     let test = begun .before in
     let head = test .before in
     let start = head .before .before .before .before .before .before .before .before .before .before .before in
-    steps-on (head .loop .inv) (λ s. adjointStepStart (s .tau) (start .args .steps) (s .step)) refl (test .loop-test .taken) (begun .adjoint-step-start .ensures)
-    (taken .step-at .ensures) refl (c .next .ensures) (told .enum-told .given .1)
+    steps-on (head .loop .inv) (λ s. adjointStepStart (s .tau) (start .args .steps) (s .step)) refl (test .loop-test .taken)
+    (begun .adjoint-step-start .ensures) (taken .step-at .ensures) refl (c .next .ensures) (told .enum-told .given .1)
 
 same-length-2 : tie.Need-same-length-2 Inv-loop μ-loop
 same-length-2 c =

@@ -4,7 +4,6 @@ use mathlib.Core.Path.{refl}
 use Prim.Native.Nat.{_-_}
 use native.Mathlib.Omega.{arith}
 use Rattle.magnus_graph.specs.StepOutcome.{forward}
-use Rattle.graph_traj.specs.declared.kernel.Segment.{Segment}
 use Rattle.graph_traj.specs.Times.{stepStart}
 use Rattle.graph_traj.specs.Trajectory.{trajectory}
 use Rattle.magnus_graph_traj.specs.RunSteps.{forwardCourse}

@@ -33,11 +33,16 @@ run-step-requires : tie.Need-run-step-requires
 run-step-requires c κs =
     let start = c .before .before .before .before .before .before .before .before .before .before .before .before .before in
     let accepted = start .pre .0 in
-    let l = start .pre .1 .0 in
-    (accepted .pattern,
-    ((law-known (lent start) accepted (start .args .k) l, few-segments (lent start) accepted (start .args .k) l),
-    (lists-given (lent start) accepted (start .args .k) l,
-    ((accepted .lists .finite-starts, accepted .lists .finite-ends), start .pre .1 .1))))
+    let l = start .pre .1 .0 in (
+      accepted .pattern,
+      (
+        (law-known (lent start) accepted (start .args .k) l, few-segments (lent start) accepted (start .args .k) l),
+        (
+          lists-given (lent start) accepted (start .args .k) l,
+          ((accepted .lists .finite-starts, accepted .lists .finite-ends), start .pre .1 .1),
+        ),
+      ),
+    )
 
 same-length : tie.Need-same-length
 same-length c = search needs
