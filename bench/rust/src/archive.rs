@@ -130,6 +130,59 @@ mod exported {
             work: *mut f64,
             work_len: usize,
         ) -> u32;
+
+        pub fn bench_evolve_with_traj_into(
+            n: usize,
+            row_ptr: *const usize,
+            row_ptr_len: usize,
+            col_idx: *const u32,
+            col_idx_len: usize,
+            segments: usize,
+            breakpoints: *const f64,
+            breakpoints_len: usize,
+            starts: *const f64,
+            starts_len: usize,
+            ends: *const f64,
+            ends_len: usize,
+            laws: *const u8,
+            laws_len: usize,
+            steps: usize,
+            rho_bar_max: f64,
+            convergence_radius_check: bool,
+            src: *const f64,
+            src_len: usize,
+            dst: *mut f64,
+            dst_len: usize,
+            work: *mut f64,
+            work_len: usize,
+        ) -> u32;
+
+        pub fn bench_evolve_state_adjoint_into(
+            n: usize,
+            row_ptr: *const usize,
+            row_ptr_len: usize,
+            col_idx: *const u32,
+            col_idx_len: usize,
+            segments: usize,
+            breakpoints: *const f64,
+            breakpoints_len: usize,
+            starts: *const f64,
+            starts_len: usize,
+            ends: *const f64,
+            ends_len: usize,
+            laws: *const u8,
+            laws_len: usize,
+            tau: f64,
+            steps: usize,
+            rho_bar_max: f64,
+            convergence_radius_check: bool,
+            src: *const f64,
+            src_len: usize,
+            dst: *mut f64,
+            dst_len: usize,
+            work: *mut f64,
+            work_len: usize,
+        ) -> u32;
     }
 }
 
@@ -326,5 +379,86 @@ pub fn apply_exp_omega6_kernel(
             work.as_mut_ptr(),
             work.len(),
         )
+    }
+}
+
+/// A run along one segment from 0, between two samples of one pattern, of 7n + 2m work elements, with the radius check.
+pub struct Run<'a> {
+    pub first: &'a Network,
+    pub second: &'a Network,
+    pub law: u8,
+    pub end: f64,
+    pub steps: usize,
+    pub rho_bar_max: f64,
+}
+
+impl Run<'_> {
+    /// The forward run. 0 where it accepts.
+    pub fn evolve_with_traj_into(&self, dst: &mut [f64], work: &mut [f64]) -> u32 {
+        let Network { n, row_ptr, col_idx, vals, signal } = self.first;
+        let (breakpoints, laws) = ([0.0, self.end], [self.law]);
+        // SAFETY: each pointer and length is a slice's; the call reads within them and writes within the last two only.
+        unsafe {
+            exported::bench_evolve_with_traj_into(
+                *n,
+                row_ptr.as_ptr(),
+                row_ptr.len(),
+                col_idx.as_ptr(),
+                col_idx.len(),
+                1,
+                breakpoints.as_ptr(),
+                breakpoints.len(),
+                vals.as_ptr(),
+                vals.len(),
+                self.second.vals.as_ptr(),
+                self.second.vals.len(),
+                laws.as_ptr(),
+                laws.len(),
+                self.steps,
+                self.rho_bar_max,
+                true,
+                signal.as_ptr(),
+                signal.len(),
+                dst.as_mut_ptr(),
+                dst.len(),
+                work.as_mut_ptr(),
+                work.len(),
+            )
+        }
+    }
+
+    /// The adjoint run, with the same steps. 0 where it accepts.
+    pub fn evolve_state_adjoint_into(&self, dst: &mut [f64], work: &mut [f64]) -> u32 {
+        let Network { n, row_ptr, col_idx, vals, signal } = self.first;
+        let (breakpoints, laws) = ([0.0, self.end], [self.law]);
+        // SAFETY: each pointer and length is a slice's; the call reads within them and writes within the last two only.
+        unsafe {
+            exported::bench_evolve_state_adjoint_into(
+                *n,
+                row_ptr.as_ptr(),
+                row_ptr.len(),
+                col_idx.as_ptr(),
+                col_idx.len(),
+                1,
+                breakpoints.as_ptr(),
+                breakpoints.len(),
+                vals.as_ptr(),
+                vals.len(),
+                self.second.vals.as_ptr(),
+                self.second.vals.len(),
+                laws.as_ptr(),
+                laws.len(),
+                self.end / self.steps as f64,
+                self.steps,
+                self.rho_bar_max,
+                true,
+                signal.as_ptr(),
+                signal.len(),
+                dst.as_mut_ptr(),
+                dst.len(),
+                work.as_mut_ptr(),
+                work.len(),
+            )
+        }
     }
 }

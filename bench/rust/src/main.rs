@@ -1,9 +1,10 @@
-//! The row product and the steps of orders 4 and 6 beside the published Rust's, in one process and on the same networks: the product
+//! The row product and the steps of orders 4 and 6 and the runs beside the published Rust's, in one process and on the same networks: the product
 //! alone, the whole checked call and the pattern check alone, and whole steps. The results must be the Rust's bit for bit; else
 //! it stops.
 
 mod archive;
 mod networks;
+mod runs;
 mod steps;
 mod steps6;
 mod timing;
@@ -107,4 +108,5 @@ fn main() {
     }
     steps::print(&mut random);
     steps6::print(&mut random);
+    runs::print(&mut random);
 }

@@ -1,6 +1,7 @@
 //! The networks that are measured, and numbers drawn from a seed.
 
 /// Row starts, columns and values of a network with n nodes, and a signal on it.
+#[derive(Clone)]
 pub struct Network {
     pub n: usize,
     pub row_ptr: Vec<usize>,

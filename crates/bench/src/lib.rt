@@ -3,6 +3,8 @@ use error::Checked;
 use graph::apply_into_slice;
 use graph::from_csr_parts;
 use magnus_graph::apply_exp_omega4_kernel;
+use magnus_graph_traj::evolve_state_adjoint_into;
+use magnus_graph_traj::evolve_with_traj_into;
 use magnus6_graph::apply_exp_omega6_kernel;
 use square_root::kernel::sqrt_into_slice;
 use square_root::sqrt;
@@ -170,6 +172,80 @@ pub extern "C" fn bench_apply_exp_omega6_kernel(
         col_idx3,
         vals3,
         tau,
+        rho_bar_max,
+        convergence_radius_check,
+        src,
+        dst,
+        work,
+    ))
+}
+
+// The forward run with its checks.
+#[no_mangle]
+pub extern "C" fn bench_evolve_with_traj_into(
+    n: usize,
+    row_ptr: &[usize],
+    col_idx: &[u32],
+    segments: usize,
+    breakpoints: &[f64],
+    starts: &[f64],
+    ends: &[f64],
+    laws: &[u8],
+    steps: usize,
+    rho_bar_max: f64,
+    convergence_radius_check: bool,
+    src: &[f64],
+    dst: &mut [f64],
+    work: &mut [f64],
+) -> u32 {
+    refused(evolve_with_traj_into(
+        n,
+        row_ptr,
+        col_idx,
+        segments,
+        breakpoints,
+        starts,
+        ends,
+        laws,
+        steps,
+        rho_bar_max,
+        convergence_radius_check,
+        src,
+        dst,
+        work,
+    ))
+}
+
+// The adjoint run with its checks.
+#[no_mangle]
+pub extern "C" fn bench_evolve_state_adjoint_into(
+    n: usize,
+    row_ptr: &[usize],
+    col_idx: &[u32],
+    segments: usize,
+    breakpoints: &[f64],
+    starts: &[f64],
+    ends: &[f64],
+    laws: &[u8],
+    tau: f64,
+    steps: usize,
+    rho_bar_max: f64,
+    convergence_radius_check: bool,
+    src: &[f64],
+    dst: &mut [f64],
+    work: &mut [f64],
+) -> u32 {
+    refused(evolve_state_adjoint_into(
+        n,
+        row_ptr,
+        col_idx,
+        segments,
+        breakpoints,
+        starts,
+        ends,
+        laws,
+        tau,
+        steps,
         rho_bar_max,
         convergence_radius_check,
         src,
