@@ -118,3 +118,14 @@ pub fn written_right(checked: Checked, written: &[f64], fields: &[u8], at: usize
     is_checked(answer_at(fields, at), checked)
         && ends_with_reals(fields, after_answer(fields, at), written)
 }
+
+// Whether so many elements at the start of the work slice are +0, and each other one has the bits from before the call.
+pub fn work_right(work: &[f64], cleared: usize, before: u64) -> bool {
+    for i in 0..work.len() {
+        let bits = if i < cleared { 0 } else { before };
+        if !has_bits(work[i], bits) {
+            return false;
+        }
+    }
+    true
+}

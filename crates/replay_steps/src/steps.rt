@@ -8,12 +8,12 @@ use crate::weighted_steps::read_weights;
 use crate::weighted_steps::weighted_step;
 use error::Checked;
 use float::bits::from_bits;
-use float::bits::has_bits;
 use magnus_graph::apply_exp_omega4_adj_kernel;
 use magnus_graph::apply_exp_omega4_kernel;
 use magnus6_graph::apply_exp_omega6_kernel;
 use replay::answer::answer_at;
 use replay::answer::is_acceptance;
+use replay::answer::work_right;
 use replay::answer::written_right;
 use replay::fields::further;
 use replay::fields::number64;
@@ -59,17 +59,6 @@ fn numbers_at(kind: u64, fields: &[u8], at: usize) -> Numbers {
         convergence_radius_check,
         next: unweighted_end,
     }
-}
-
-// Whether so many elements at the start of the work slice are +0, and each other one has the bits from before the call.
-fn work_right(work: &[f64], cleared: usize, before: u64) -> bool {
-    for i in 0..work.len() {
-        let bits = if i < cleared { 0 } else { before };
-        if !has_bits(work[i], bits) {
-            return false;
-        }
-    }
-    true
 }
 
 // How many elements of the work slice an accepted step of a kind clears: 5n, 9n where it is weighted, 22n at order 6. A step

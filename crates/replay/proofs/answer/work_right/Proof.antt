@@ -3,8 +3,8 @@ use mathlib.Core.Path.{_≡_}
 use Prim.Native.Nat.{_-_}
 use lib.ListN.{length}
 use borrow.Author.Needs.{needs}
-use Rattle.replay_steps.proofs.steps.work_right.Statement.{statement}
-use Rattle.replay_steps.proofs.steps.work_right.Tie as tie
+use Rattle.replay.proofs.answer.work_right.Statement.{statement}
+use Rattle.replay.proofs.answer.work_right.Tie as tie
 
 abbrev Inv-loop : tie.InvT-loop
 Inv-loop work cleared before i₀ i-end i = i-end ≡ length work
