@@ -73,14 +73,19 @@ unfoldable pub sampledFault : List Float → Checked
 sampledFault values = refuseFirst (notFiniteAt values) (length values) (λ k. SampledValue (getD values k nan))
 
 module _ (t : Trajectory) (course : Course) where
-  -- the values of the sample at the Gauss node c of a step, by the law of its segment
+  -- how far the sample at the Gauss node c of a step is on its way through the segment
+  abbrev pub fractionAt : RunStep → Float → Float
+  fractionAt s c =
+      let k = s .segment in
+      let time = sampleTime (course .start s) c (course .tau s) in
+      fraction time (breakpoint (t .breakpoints) k) (breakpoint (t .breakpoints) (k + 1))
+
+  -- the values of that sample, by the law of the segment
   unfoldable pub sampleAt : RunStep → Float → List Float
   sampleAt s c =
       let k = s .segment in
       let m = length (t .cols) in
-      let time = sampleTime (course .start s) c (course .tau s) in
-      let f = fraction time (breakpoint (t .breakpoints) k) (breakpoint (t .breakpoints) (k + 1)) in
-      valuesAt (getD (t .laws) k 0) m f (part (k * m) m (t .starts)) (part (k * m) m (t .ends))
+      valuesAt (getD (t .laws) k 0) m (fractionAt s c) (part (k * m) m (t .starts)) (part (k * m) m (t .ends))
 
   -- the products with its two samples
   abbrev pub product : RunStep → Float → List Float → List Float

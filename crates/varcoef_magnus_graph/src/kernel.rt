@@ -190,7 +190,7 @@ fn taylor_term_la(
 }
 
 // The Taylor sum of four terms: the vector at 0, the signal, becomes the step's answer. The roots are kept.
-fn taylor4_la(
+pub fn taylor4_la(
     row_ptr1: &[usize],
     col_idx1: &[u32],
     vals1: &[f64],

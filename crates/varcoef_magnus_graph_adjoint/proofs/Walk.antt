@@ -1,0 +1,276 @@
+-- How the loops of a weighted run walk over the steps of its one segment: step by step with samples of law 2, and with one list for all
+-- steps under laws 0 and 1. Assumes nothing.
+use mathlib.Core.Path.{_≡_, refl, sym, ap, _∙_, subst}
+use mathlib.Core.List.{List, [], _∷_, _++_, map}
+use Prim.Native.Nat.{ℕ, zero, suc, _+_, _*_, _≤_, _<_}
+use native.Mathlib.Numerals.{add-one}
+use native.Mathlib.Omega.{arith}
+use lib.ListN.{length, take, length-map}
+use lib.Ieee.{Float, binary64}
+use Rattle.rounding.specs.StepLength.{minusHalf}
+use Rattle.arithmetic.specs.Vector.{tabulate}
+use Rattle.arithmetic.specs.Arithmetic.{ieee}
+use Rattle.scratch.specs.Parts.{part, put}
+use Rattle.scratch.proofs.Parts.{part-of-put, part-of-put-before}
+use Rattle.square_root.specs.SquareRoot.{squareRoot}
+use Rattle.error.specs.Checks.{next}
+use Rattle.error.specs.declared.Refusal.{Refusal}
+use Rattle.error.specs.declared.Checked.{Checked}
+use Rattle.error.specs.declared.Checked.the-variants.{Accepted, Refused}
+use Rattle.graph.specs.RowProduct.{rowProduct64}
+use Rattle.magnus.specs.Run.{runAlong}
+use Rattle.magnus.specs.Operators.{taylor}
+use Rattle.magnus.specs.Coefficients.{reciprocalFactorial}
+use Rattle.magnus_graph.specs.StepOutcome.{adjoint}
+use Rattle.magnus_graph_helpers.specs.StepChecks.{sampleWeightsFault, weightFault}
+use Rattle.magnus_graph_helpers.specs.Terms.{TermsAdded}
+use Rattle.magnus_graph_helpers.proofs.StepSound.{refused-not-accepted}
+use Rattle.varcoef_magnus_graph.specs.WeightedOmega4.{sqrt3Over12, weightedOmega4}
+use Rattle.graph_traj.specs.declared.kernel.Segment.{Segment}
+use Rattle.graph_traj.specs.SegmentValue.{nextStep}
+use Rattle.graph_traj.specs.Laws.{fraction, lawValues}
+use Rattle.graph_traj.specs.Times.{c1, c2, adjointStepStart, sampleTime}
+use Rattle.magnus_graph_traj.specs.RunSteps.{RunStep, segmentSteps, firstFault}
+use Rattle.varcoef_magnus_graph_adjoint.specs.StepsTaken.{Kept, StepTaken, StepsTaken, stepImage, sampledStepFault, sampledStepImage}
+use Rattle.varcoef_magnus_graph_adjoint.proofs.StepsTaken.{run-along-append, first-fault-append, refusal-stays, segment-grows}
+use Rattle.varcoef_magnus_graph_adjoint.proofs.StepsTaken.{kept-all, kept-then, kept-put, none-taken, one-taken, more-taken, stays-refused}
+
+-- step j of the one segment, and the segment's value before it
+abbrev pub stepOf : ℕ → RunStep
+stepOf j = record { segment = 0; number = j }
+
+abbrev pub segmentBefore : Segment → ℕ → Segment
+segmentBefore first j = record { start = first .start; end = first .end; tau = first .tau; step = j }
+
+-- ---- step by step
+
+-- j of the steps were taken, and the segment's value is the one before step j
+pub record Walked (fault : RunStep → Checked) (image : RunStep → List Float → List Float) (n need : ℕ) (first : Segment) (steps j : ℕ)
+    (w₀ w : List Float) (segment : Segment) : Type 0 where
+  pub within : j ≤ steps
+  pub taken : StepsTaken fault image n need (segmentSteps 0 j) Accepted w₀ w
+  pub here : segment ≡ segmentBefore first j
+
+module _ {fault : RunStep → Checked} {image : RunStep → List Float → List Float} {n need : ℕ} {first : Segment} where
+  pub walk-begins : (steps : ℕ) (w : List Float) → first .step ≡ 0 → Walked fault image n need first steps 0 w w first
+  unfolding tabulate
+  walk-begins steps w e =
+      record { within = omega arith; taken = none-taken w; here = ap (segmentBefore first) e }
+
+  module _ {steps j : ℕ} {w₀ w : List Float} {segment : Segment} (walked : Walked fault image n need first steps j w₀ w segment) where
+    pub step-number : segment .step ≡ j
+    step-number = ap (λ (s : Segment). s .step) (walked .here)
+
+    pub walk-ends : steps ≤ j → StepsTaken fault image n need (segmentSteps 0 steps) Accepted w₀ w
+    walk-ends l =
+        let e : j ≡ steps = omega (arith, walked .within) in
+        subst (λ (k : ℕ). StepsTaken fault image n need (segmentSteps 0 k) Accepted w₀ w) e (walked .taken)
+
+    module _ (l : j < steps) {answer : Checked} {w′ : List Float}
+        (made : StepsTaken fault image n need (stepOf j ∷ []) answer w w′) where
+      turned : StepsTaken fault image n need (segmentSteps 0 (suc j)) answer w₀ w′
+      turned =
+          subst (λ (ss : List RunStep). StepsTaken fault image n need ss answer w₀ w′) (sym (segment-grows 0 j))
+          (more-taken (walked .taken) made)
+
+      pub walk-on : {after : Segment} → answer ≡ Accepted → after ≡ nextStep segment
+          → Walked fault image n need first steps (j + 1) w₀ w′ after
+      walk-on {after} p e = record {
+        within = omega arith;
+        taken = subst (λ (k : ℕ). StepsTaken fault image n need (segmentSteps 0 k) Accepted w₀ w′) (sym (add-one j))
+            (subst (λ (a : Checked). StepsTaken fault image n need (segmentSteps 0 (suc j)) a w₀ w′) p turned);
+        here = e ∙ ap nextStep (walked .here);
+      }
+
+      pub walk-stops : {r : Refusal} → answer ≡ Refused r → StepsTaken fault image n need (segmentSteps 0 steps) answer w₀ w′
+      walk-stops p = stays-refused (segmentSteps 0) (λ k. stepOf k ∷ []) (segment-grows 0) l p turned
+
+-- a step of law 2 whose samples lie where the segment's value says
+module _ (n : ℕ) (rowStarts cols : List ℕ) (starts ends startWeights endWeights : List Float) (first : Segment) (steps : ℕ) where
+  abbrev fractionIn : Segment → Float → Float
+  fractionIn s c = fraction (sampleTime (adjointStepStart (s .tau) steps (s .step)) c (s .tau)) (s .start) (s .end)
+
+  pub sampled-one : (j : ℕ) (segment : Segment) {answer : Checked} {w w′ : List Float}
+      → segment ≡ segmentBefore first j
+      → StepTaken n rowStarts cols (segment .tau)
+      (lawValues (length starts) (fractionIn segment c1) starts ends)
+      (lawValues (length starts) (fractionIn segment c2) starts ends)
+      (lawValues (length startWeights) (fractionIn segment c1) startWeights endWeights)
+      (lawValues (length startWeights) (fractionIn segment c2) startWeights endWeights) answer w w′
+      → StepsTaken (sampledStepFault n rowStarts cols starts ends startWeights endWeights (first .start) (first .end) (first .tau) steps)
+      (sampledStepImage n rowStarts cols starts ends startWeights endWeights (first .start) (first .end) (first .tau) steps)
+      n (11 * n + 2 * length cols) (stepOf j ∷ []) answer w w′
+  sampled-one j segment {answer} {w} {w′} here taken =
+      let same =
+      subst (λ (s : Segment). StepTaken n rowStarts cols (s .tau)
+      (lawValues (length starts) (fractionIn s c1) starts ends)
+      (lawValues (length starts) (fractionIn s c2) starts ends)
+      (lawValues (length startWeights) (fractionIn s c1) startWeights endWeights)
+      (lawValues (length startWeights) (fractionIn s c2) startWeights endWeights) answer w w′) here taken in
+      one-taken (stepOf j) (same .answer-is) (same .held) (same .kept)
+
+-- ---- one list for all steps
+
+-- a fault that all steps share
+shared-accepted : (f : Checked) (ss : List RunStep) → f ≡ Accepted → firstFault (λ (s : RunStep). f) ss ≡ Accepted
+unfolding firstFault next
+shared-accepted f [] p = refl
+shared-accepted f (s ∷ ss) p = ap (λ (g : Checked). next g (firstFault (λ (s : RunStep). f) ss)) p ∙ shared-accepted f ss p
+
+shared-refused : (f : Checked) (steps : ℕ) (q : Refusal) → 0 < steps → f ≡ Refused q
+    → firstFault (λ (s : RunStep). f) (segmentSteps 0 steps) ≡ Refused q
+unfolding firstFault next tabulate
+shared-refused f steps q l p =
+    refusal-stays (λ (s : RunStep). f) (segmentSteps 0) (λ k. stepOf k ∷ []) (segment-grows 0) 1 steps q l
+    (ap (λ (g : Checked). next g Accepted) p)
+
+module _ (n : ℕ) (rowStarts cols : List ℕ) (τ : Float) (x a : List Float) where
+  abbrev need : ℕ
+  need = 11 * n + 2 * length cols
+
+  abbrev root : List Float
+  root = map (squareRoot binary64) a
+
+  abbrev image : List Float → List Float
+  image = stepImage n rowStarts cols τ x x a a
+
+  -- j of the steps were taken; the roots of the weights lie in the work slice
+  pub record ConstantWalked (steps j : ℕ) (w₀ w : List Float) : Type 0 where
+    pub within : j ≤ steps
+    pub held : part 0 n w ≡ runAlong (λ (s : RunStep). image) (segmentSteps 0 j) (part 0 n w₀)
+    pub root1 : part (6 * n) n w ≡ root
+    pub root2 : part (7 * n) n w ≡ root
+    pub kept : Kept need w₀ w
+
+  pub constant-begins : (steps : ℕ) (w w₁ w₂ : List Float)
+      → length a ≡ n
+      → need ≤ length w
+      → w₁ ≡ put (6 * n) root w
+      → w₂ ≡ put (7 * n) root w₁
+      → ConstantWalked steps 0 w w₂
+  unfolding runAlong tabulate
+  constant-begins steps w w₁ w₂ size room first second =
+      let s = length-map a (squareRoot binary64) ∙ size in
+      let kept1 : Kept need w w₁ = kept-put (6 * n) root w w₁ (omega arith) first in
+      let kept2 : Kept need w₁ w₂ = kept-put (7 * n) root w₁ w₂ (omega arith) second in
+      let l = kept1 .length-kept in
+      record {
+        within = omega arith;
+        held = ap (part 0 n) second ∙ part-of-put-before (7 * n) root w₁ 0 n (omega arith)
+            ∙ ap (part 0 n) first ∙ part-of-put-before (6 * n) root w 0 n (omega arith);
+        root1 = ap (part (6 * n) n) second ∙ part-of-put-before (7 * n) root w₁ (6 * n) n (omega arith)
+            ∙ ap (part (6 * n) n) first ∙ part-of-put (6 * n) n root w s (omega arith);
+        root2 = ap (part (7 * n) n) second ∙ part-of-put (7 * n) n root w₁ s (omega arith);
+        kept = kept-then kept1 kept2;
+      }
+
+  -- the loop starts from there, and what it reaches is reached from before
+  pub constant-starts : {steps : ℕ} {w w₂ : List Float} → ConstantWalked steps 0 w w₂ → ConstantWalked steps 0 w₂ w₂
+  unfolding runAlong tabulate
+  constant-starts {steps} {w} {w₂} ready =
+      record { within = ready .within; held = refl; root1 = ready .root1; root2 = ready .root2; kept = kept-all w₂ }
+
+  pub constant-from : {steps j : ℕ} {w w₂ w′ : List Float} → ConstantWalked steps 0 w w₂ → ConstantWalked steps j w₂ w′
+      → ConstantWalked steps j w w′
+  unfolding runAlong tabulate
+  constant-from {steps} {j} ready walked = record {
+    within = walked .within;
+    held = walked .held ∙ ap (runAlong (λ (s : RunStep). image) (segmentSteps 0 j)) (ready .held);
+    root1 = walked .root1;
+    root2 = walked .root2;
+    kept = kept-then (ready .kept) (walked .kept);
+  }
+
+  abbrev L : List Float → List Float
+  L = rowProduct64 n rowStarts cols x
+
+  pub constant-on : {steps j : ℕ} {w₀ w w′ : List Float}
+      → ConstantWalked steps j w₀ w
+      → j < steps
+      → TermsAdded (ieee binary64) n (6 * n) (reciprocalFactorial binary64) 4
+      (weightedOmega4 (ieee binary64) n minusHalf sqrt3Over12 adjoint τ L L (part (6 * n) n w) (part (7 * n) n w)) w w′
+      → ConstantWalked steps (j + 1) w₀ w′
+  unfolding runAlong tabulate
+  constant-on {steps} {j} {w₀} {w} {w′} walked l terms =
+      let step : part 0 n w′ ≡ image (part 0 n w) =
+      terms .sum
+      ∙ (λ i. taylor (ieee binary64) n (reciprocalFactorial binary64) 4
+      (weightedOmega4 (ieee binary64) n minusHalf sqrt3Over12 adjoint τ L L (walked .root1 i) (walked .root2 i)) (part 0 n w)) in
+      let grown : runAlong (λ (s : RunStep). image) (segmentSteps 0 (suc j)) (part 0 n w₀)
+      ≡ image (runAlong (λ (s : RunStep). image) (segmentSteps 0 j) (part 0 n w₀)) =
+      run-along-append (λ (s : RunStep). image) (segmentSteps 0 j) (stepOf j ∷ []) (part 0 n w₀) in
+      record {
+        within = omega arith;
+        held =
+            step ∙ ap image (walked .held) ∙ sym grown
+            ∙ ap (λ (k : ℕ). runAlong (λ (s : RunStep). image) (segmentSteps 0 k) (part 0 n w₀)) (sym (add-one j));
+        root1 = ap (take n) (terms .rest (6 * n) (omega arith)) ∙ walked .root1;
+        root2 = ap (take n) (terms .rest (7 * n) (omega arith)) ∙ walked .root2;
+        kept = kept-then (walked .kept) (record { length-kept = terms .length-kept; rest = λ k h. terms .rest k (omega arith) });
+      }
+
+  abbrev Taken : ℕ → Checked → List Float → List Float → Type 0
+  Taken steps answer w w′ =
+      StepsTaken (λ (s : RunStep). weightFault a a) (λ (s : RunStep). image) n need (segmentSteps 0 steps) answer w w′
+
+  pub constant-ends : {check : Checked} {steps j : ℕ} {w₀ w : List Float}
+      → check ≡ sampleWeightsFault a
+      → check ≡ Accepted
+      → ConstantWalked steps j w₀ w
+      → steps ≤ j
+      → Taken steps Accepted w₀ w
+  unfolding weightFault next
+  constant-ends {check} {steps} {j} {w₀} {w} made accepted walked l =
+      let e : j ≡ steps = omega (arith, walked .within) in
+      let one = sym made ∙ accepted in
+      let both : weightFault a a ≡ Accepted = ap (λ (g : Checked). next g (sampleWeightsFault a)) one ∙ one in
+      record {
+        answer-is = sym (shared-accepted (weightFault a a) (segmentSteps 0 steps) both);
+        held = λ p.
+            walked .held ∙ ap (λ (k : ℕ). runAlong (λ (s : RunStep). image) (segmentSteps 0 k) (part 0 n w₀)) e;
+        kept = walked .kept;
+      }
+
+  pub constant-refused : {check : Checked} {steps : ℕ} {q : Refusal} (w : List Float)
+      → check ≡ sampleWeightsFault a
+      → check ≡ Refused q
+      → 0 < steps
+      → Taken steps check w w
+  unfolding weightFault next
+  constant-refused {check} {steps} {q} w made refused l =
+      let both : weightFault a a ≡ Refused q = ap (λ (g : Checked). next g (sampleWeightsFault a)) (sym made ∙ refused) in
+      record {
+        answer-is = refused ∙ sym (shared-refused (weightFault a a) steps q l both);
+        held = λ p. absurd (refused-not-accepted refl refused p);
+        kept = record { length-kept = refl; rest = λ j h. refl };
+      }
+
+-- ---- the same steps said otherwise
+
+module _ (fault fault′ : RunStep → Checked) (image image′ : RunStep → List Float → List Float)
+    (faults : (j : ℕ) → fault (stepOf j) ≡ fault′ (stepOf j))
+    (images : (j : ℕ) → image (stepOf j) ≡ image′ (stepOf j)) where
+  same-fault : (steps : ℕ) → firstFault fault (segmentSteps 0 steps) ≡ firstFault fault′ (segmentSteps 0 steps)
+  unfolding firstFault tabulate
+  same-fault zero = refl
+  same-fault (suc j) =
+      first-fault-append fault (segmentSteps 0 j) (stepOf j ∷ [])
+      ∙ (λ i. next (same-fault j i) (next (faults j i) Accepted))
+      ∙ sym (first-fault-append fault′ (segmentSteps 0 j) (stepOf j ∷ []))
+
+  same-image : (steps : ℕ) (v : List Float) → runAlong image (segmentSteps 0 steps) v ≡ runAlong image′ (segmentSteps 0 steps) v
+  unfolding runAlong tabulate
+  same-image zero v = refl
+  same-image (suc j) v =
+      run-along-append image (segmentSteps 0 j) (stepOf j ∷ []) v
+      ∙ (λ i. images j i (same-image j v i))
+      ∙ sym (run-along-append image′ (segmentSteps 0 j) (stepOf j ∷ []) v)
+
+  pub same-taken : (steps : ℕ) {n need : ℕ} {answer : Checked} {w w′ : List Float}
+      → StepsTaken fault image n need (segmentSteps 0 steps) answer w w′
+      → StepsTaken fault′ image′ n need (segmentSteps 0 steps) answer w w′
+  same-taken steps {n} {w = w} taken = record {
+    answer-is = taken .answer-is ∙ same-fault steps;
+    held = λ p. taken .held p ∙ same-image steps (part 0 n w);
+    kept = taken .kept;
+  }

@@ -1,0 +1,3 @@
+pub mod WeightedRunSteps
+pub mod WeightedRunOutcome
+pub mod StepsTaken
