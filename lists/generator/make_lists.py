@@ -17,8 +17,7 @@ LISTS = {
     "crates/replay_roots/stdin": (lambda random: [(ROOT, fields) for fields in roots.inputs(random)],),
     "crates/replay_networks/stdin": (networks.inputs,),
     "crates/replay_steps/stdin": (steps.inputs, steps6.inputs),
-    "crates/replay_runs/stdin": (runs.unweighted_inputs,),
-    "crates/replay_weighted_runs/stdin": (runs.weighted_inputs,),
+    "crates/replay_runs/stdin": (runs.inputs,),
 }
 
 

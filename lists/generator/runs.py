@@ -2,7 +2,7 @@
 
 from checks import HALF_PI, lengths_of_steps, whole_bound
 from ieee import ONE, SIGN, to_bits, to_float
-from list_format import EVOLVE, EVOLVE_ADJOINT, RULED_WEIGHTED_EVOLVE_ADJOINT, SEGMENT_INDEX, WEIGHTED_EVOLVE_ADJOINT
+from list_format import EVOLVE, EVOLVE_ADJOINT, SEGMENT_INDEX, WEIGHTED_EVOLVE_ADJOINT
 from random_reals import FINITE_SORTS, INFINITIES, NANS, ZEROS, huge, ordinary, signal_list, tiny, with_fields
 from ruled_runs import ruled_inputs
 from run_faults import FAULTS_OF_RUNS, refused
@@ -22,7 +22,6 @@ from step_samples import LARGEST, WEIGHT_SORTS, moderate, positive
 from steps import least_tau_outside
 
 ADJOINT_RUNS = (EVOLVE_ADJOINT, WEIGHTED_EVOLVE_ADJOINT)
-WEIGHTED_RUNS = (WEIGHTED_EVOLVE_ADJOINT, RULED_WEIGHTED_EVOLVE_ADJOINT)
 
 
 def of_moderate_values(random, kind, count):
@@ -306,13 +305,3 @@ def inputs(random):
     for kind in (EVOLVE, *ADJOINT_RUNS):
         pairs += [(kind, fields) for fields in run_families(random, kind)]
     return pairs + list(ruled_inputs(random))
-
-
-def unweighted_inputs(random):
-    """The lookups, and the runs without node weights."""
-    return [(kind, fields) for kind, fields in inputs(random) if kind not in WEIGHTED_RUNS]
-
-
-def weighted_inputs(random):
-    """The runs with node weights."""
-    return [(kind, fields) for kind, fields in inputs(random) if kind in WEIGHTED_RUNS]

@@ -7,15 +7,17 @@ use replay::Tally;
 use replay::next_case;
 
 mod lookups;
+mod numbers;
 mod rules;
 mod runs;
 mod trajectory;
+mod weighted_runs;
 
 // A case of a kind, counted as right or wrong: whether its call does what the case says.
 fn counted(kind: u64, fields: &[u8], tally: Tally) -> Tally {
     match kind {
         12 | 16 => tally.counted(lookup_right(kind, fields)),
-        13 | 14 | 17 | 18 => tally.counted(run_right(kind, fields)),
+        13..=15 | 17..=19 => tally.counted(run_right(kind, fields)),
         _ => tally.counted(false),
     }
 }

@@ -1,4 +1,4 @@
-// The slices of a case that is given by rules, kinds 16 to 18 (lists/README.md has the rules). Where a slice does not fit its target, it is
+// The slices of a case that is given by rules, kinds 16 to 19 (lists/README.md has the rules). Where a slice does not fit its target, it is
 // taken as empty, and leads to a position at which no case ends.
 ghost use Prim.Native.Nat.{_≤_, _<_};
 ghost use Rattle.replay.specs.Counts.{Counts};

@@ -1,6 +1,11 @@
-// The runs of order 4: kinds 13 (forward) and 14 (adjoint), and 17 and 18, the same by rules. The arrays have room for every slice that a
-// case of 65,536 bytes can have, or that the rules of the list give. A forward run has no τ, and its call does not take it.
+// The runs of order 4: kinds 13 (forward), 14 (adjoint) and 15 (weighted adjoint), and 17 to 19, the same by rules. The arrays have room for
+// every slice that a case of 65,536 bytes can have, or that the rules of the list give. A forward run has no τ, and an unweighted run has
+// no weights; neither call takes them.
+ghost use Prim.Native.Nat.{_≤_};
 ghost use Rattle.replay.specs.Counts.{Counts};
+use crate::numbers::Numbers;
+use crate::numbers::is_forward;
+use crate::numbers::numbers_at;
 use crate::rules::by_rules;
 use crate::rules::pool_length;
 use crate::rules::repeat_real;
@@ -8,8 +13,10 @@ use crate::trajectory::read_breakpoints;
 use crate::trajectory::read_elements;
 use crate::trajectory::read_laws;
 use crate::trajectory::read_pattern;
+use crate::weighted_runs::is_weighted;
+use crate::weighted_runs::read_weights;
+use crate::weighted_runs::weighted_run;
 use error::Checked;
-use float::bits::from_bits;
 use magnus_graph_traj::evolve_state_adjoint_into;
 use magnus_graph_traj::evolve_with_traj_into;
 use replay::answer::Answer;
@@ -20,46 +27,25 @@ use replay::fields::Slice;
 use replay::fields::further;
 use replay::fields::number64;
 use replay::fields::read_reals;
-use replay::kernel::byte;
 
 const MOST_NODES: usize = 4096;
 
 const MOST_COLUMNS: usize = 65535;
 
-// Whether the runs of a kind go forward.
-fn is_forward(kind: u64) -> bool {
-    kind == 13 || kind == 17
-}
-
-// The numbers of a run: the step length, how many steps there are, in each segment of a forward run, the spectral bound, whether row 8 is
-// checked, and the position of the field after them.
-struct Numbers {
-    tau: f64,
-    steps: usize,
-    rho_bar_max: f64,
-    convergence_radius_check: bool,
-    next: usize,
-}
-
-// The numbers at a position. A forward run has no field for the step length.
-fn numbers_at(kind: u64, fields: &[u8], at: usize) -> Numbers {
-    let tau = from_bits(number64(fields, at));
-    let after_tau = if is_forward(kind) { at } else { further(at, 8) };
-    let steps = number64(fields, after_tau) as usize;
-    let rho_bar_max = from_bits(number64(fields, further(after_tau, 8)));
-    let convergence_radius_check = byte(fields, further(after_tau, 16)) == 1;
-    Numbers {
-        tau,
-        steps,
-        rho_bar_max,
-        convergence_radius_check,
-        next: further(after_tau, 17),
+// How many elements of the work slice a run of a kind needs: 7n + 2m, or 11n + 2m where it is weighted.
+fn work_need(kind: u64, n: usize, m: usize) -> usize
+    requires { ⌜ (n ≤ 4096) × (m ≤ 65535) ⌝ }
+{
+    if is_weighted(kind) {
+        11 * n + 2 * m
+    } else {
+        7 * n + 2 * m
     }
 }
 
-// How many elements of the work slice a run clears that must answer so: 7n + 2m where it is accepted, and where row 20 ends it, but none
-// without steps. Every other refusal comes before the first step, and so do those of more nodes or columns than there may be.
-fn cleared_by(expected: Answer, steps: usize, n: usize, m: usize) -> usize {
+// How many elements of the work slice a run clears that must answer so: all that it needs, after an acceptance and where row 11 or 20 ends
+// it, but none without steps. Every other refusal comes before the first step, and so do those of more nodes or columns than there may be.
+fn cleared_by(kind: u64, expected: Answer, steps: usize, n: usize, m: usize) -> usize {
     if steps == 0 {
         return 0;
     }
@@ -71,12 +57,12 @@ fn cleared_by(expected: Answer, steps: usize, n: usize, m: usize) -> usize {
     }
     let number = expected.number;
     match number {
-        0 | 20 => 7 * n + 2 * m,
+        0 | 11 | 20 => work_need(kind, n, m),
         _ => 0,
     }
 }
 
-// The run of a kind: forward, or else adjoint.
+// The run of a kind: forward, weighted adjoint, or else adjoint. Only a weighted run takes the weights.
 fn evolved(
     kind: u64,
     n: usize,
@@ -88,6 +74,8 @@ fn evolved(
     ends: &[f64],
     laws: &[u8],
     numbers: Numbers,
+    a_starts: &[f64],
+    a_ends: &[f64],
     src: &[f64],
     dst: &mut [f64],
     work: &mut [f64],
@@ -105,6 +93,28 @@ fn evolved(
             numbers.steps,
             numbers.rho_bar_max,
             numbers.convergence_radius_check,
+            src,
+            dst,
+            work,
+        );
+    }
+    if is_weighted(kind) {
+        return weighted_run(
+            n,
+            row_ptr,
+            col_idx,
+            segments,
+            breakpoints,
+            starts,
+            ends,
+            laws,
+            numbers.tau,
+            numbers.steps,
+            numbers.rho_bar_max,
+            numbers.a_sup_max,
+            numbers.convergence_radius_check,
+            a_starts,
+            a_ends,
             src,
             dst,
             work,
@@ -142,6 +152,8 @@ fn outcome_right(
     ends: &[f64],
     laws: &[u8],
     numbers: Numbers,
+    a_starts: &[f64],
+    a_ends: &[f64],
     src: &[f64],
     dst: &mut [f64],
     work: &mut [f64],
@@ -160,11 +172,13 @@ fn outcome_right(
         ends,
         laws,
         numbers,
+        a_starts,
+        a_ends,
         src,
         dst,
         work,
     );
-    let cleared = cleared_by(answer_at(fields, at), numbers.steps, n, col_idx.len());
+    let cleared = cleared_by(kind, answer_at(fields, at), numbers.steps, n, col_idx.len());
     written_right(checked, dst, fields, at) && work_right(work, cleared, before)
 }
 
@@ -180,6 +194,8 @@ fn work_slice_right(
     ends: &[f64],
     laws: &[u8],
     numbers: Numbers,
+    a_starts: &[f64],
+    a_ends: &[f64],
     src: &[f64],
     dst: &mut [f64],
     fields: &[u8],
@@ -201,6 +217,8 @@ fn work_slice_right(
         ends,
         laws,
         numbers,
+        a_starts,
+        a_ends,
         src,
         dst,
         &mut room[..w],
@@ -220,7 +238,7 @@ fn read_output(kind: u64, n: usize, fields: &[u8], at: usize, target: &mut [f64]
     read_reals(fields, at, target)
 }
 
-// The same for the numbers, the signal and the output before, which stand first at the position.
+// The same for the numbers, the weights, the signal and the output before, which stand first at the position.
 fn vectors_right(
     kind: u64,
     n: usize,
@@ -235,11 +253,17 @@ fn vectors_right(
     at: usize,
     work_room: &mut [f64],
 ) -> bool {
+    let mut weights1 = [0.0; 8192];
+    let mut weights2 = [0.0; 8192];
     let mut signals = [0.0; 8192];
     let mut outputs = [0.0; 8192];
     let numbers = numbers_at(kind, fields, at);
-    let src = read_elements(kind, n, fields, numbers.next, &mut signals);
+    let first = read_weights(kind, n, fields, numbers.next, &mut weights1);
+    let second = read_weights(kind, n, fields, first.next, &mut weights2);
+    let src = read_elements(kind, n, fields, second.next, &mut signals);
     let dst = read_output(kind, n, fields, src.next, &mut outputs);
+    let w1 = first.count;
+    let w2 = second.count;
     let s = src.count;
     let d = dst.count;
     work_slice_right(
@@ -253,6 +277,8 @@ fn vectors_right(
         ends,
         laws,
         numbers,
+        &weights1[..w1],
+        &weights2[..w2],
         &signals[..s],
         &mut outputs[..d],
         fields,
