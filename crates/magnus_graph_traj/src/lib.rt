@@ -11,7 +11,7 @@ use scratch::kernel::load;
 use scratch::kernel::store;
 
 pub mod kernel;
-pub mod run;
+mod run;
 
 // The forward run: dst becomes src after `steps` steps in each segment. Refused before the first step by rows 6, 1 to 4, 13, 14, 15, 19,
 // 5, 9, 16, 17, 10 for src, dst and work, whose need is 7n + 2m, and 8 by segment: every slice is as it was. Refused by row 20 in a step,

@@ -9,7 +9,7 @@ use scratch::kernel::store;
 use steps::run_steps;
 
 pub mod kernel;
-pub mod steps;
+mod steps;
 
 // The weighted adjoint run in the one segment of its trajectory: dst becomes src after `steps` steps of length tau, the last first. The
 // weights a_starts and a_ends follow the law of the values. Refused before the first step by rows 6, 1 to 4, 13, 14, 15, 17, 19, 5, 9, 12,
