@@ -1,15 +1,35 @@
 -- All points of the table hold: what the definitions give is what document 01 says, computed in one step. Assumes nothing.
 use mathlib.Core.Path.{_≡_, refl}
 use mathlib.Core.List.{map}
-use lib.Ieee.{lt, le, eq}
-use Rattle.error.specs.Checks.{refuseIf, refuseUnequal, next}
+use lib.Ieee.{add, sub, mul, div, neg, ofBits, ofInt, lt, le, eq}
+use Rattle.arithmetic.specs.Vector.{tabulate}
+use Rattle.arithmetic.specs.Product.{sumTo, entries, rowSum}
+use Rattle.error.specs.Checks.{refuseIf, refuseUnequal, next, ifAccepted}
+use Rattle.error.specs.Lengths.{lengthFault}
 use Rattle.graph.specs.First.{first, refuseFirst}
+use Rattle.graph.specs.PatternChecks.{sizeFault, rowStartCountFault, rowStartsFault, entryCountFault, columnFault, valueFault}
+use Rattle.graph.specs.PatternChecks.{shapeFault, patternFault, csrFault}
+use Rattle.graph.specs.ProductOutcome.{productFault}
 use Rattle.graph_traj.specs.Greatest.{greatest}
 use Rattle.graph_traj.specs.Lookup.{segmentAt}
-use Rattle.graph_traj.specs.TrajectoryChecks.{segmentCountFault, poolCountFault, notRisingAt, breakpointsFault, lookupTimeFault}
-use Rattle.graph_traj.specs.TrajectoryChecks.{lookupFault}
-use Rattle.points.specs.Points.{points, breakpoints, answer, lookup, computed, expected}
+use Rattle.graph_traj.specs.TrajectoryChecks.{segmentCountFault, oneSegmentFault, poolCountFault, notRisingAt, breakpointsFault}
+use Rattle.graph_traj.specs.TrajectoryChecks.{firstBreakpointFault, lookupTimeFault, lawsFault, lookupFault, countsFault, listsFault}
+use Rattle.graph_traj.specs.TrajectoryChecks.{adjointTrajectoryFault}
+use Rattle.graph_traj_checks.specs.RunChecks.{signalsFault, adjointRunFault}
+use Rattle.magnus.specs.Coefficients.{factorial, reciprocalFactorial}
+use Rattle.magnus.specs.Operators.{weighted, omega4, power, taylor}
+use Rattle.magnus.specs.Run.{runAlong}
+use Rattle.magnus_graph_helpers.specs.StepChecks.{notPositive, boundFault, noNodesFault, tauFault, radiusFault, weightedBound}
+use Rattle.magnus_graph_helpers.specs.StepChecks.{weightsLengthFault, roomFault, sampleWeightsFault, sampleFault, samplesFault}
+use Rattle.magnus_graph_helpers.specs.StepChecks.{weightedBoundsFault, stepLengthFault, lengthsFault, weightFault, stepFault}
+use Rattle.magnus_graph_helpers.specs.StepChecks.{weightedStepFault}
+use Rattle.magnus_graph_traj.specs.RunSteps.{firstFault}
+use Rattle.scratch.specs.Parts.{put}
+use Rattle.square_root.specs.SquareRoot.{squareRoot}
+use Rattle.points.specs.Points.{Point, points, roots, products, steps, trajectories, x64, reals, answerOr, leaves, root}
+use Rattle.points.specs.Points.{noNodes, twoEntriesBefore, productOf, diagonal, swap, commutator, stepOf, stepOfTau, twoNodes, jobStep}
+use Rattle.points.specs.Points.{weightedStep, weightedOf, breakpoints, lookup, inSegment, outside, oneNode, noSteps}
 
-pub points-hold : map computed points ≡ map expected points
-unfolding points computed expected breakpoints answer lookup lookupFault segmentCountFault poolCountFault breakpointsFault notRisingAt lookupTimeFault refuseIf refuseUnequal next refuseFirst first segmentAt greatest lt le eq
+pub points-hold : map (λ p. p .computed) points ≡ map (λ p. p .expected) points
+unfolding points roots products steps trajectories x64 reals answerOr leaves root noNodes twoEntriesBefore productOf diagonal swap commutator stepOf stepOfTau twoNodes jobStep weightedStep weightedOf breakpoints lookup inSegment outside oneNode noSteps add sub mul div neg ofBits ofInt lt le eq tabulate sumTo entries rowSum refuseIf refuseUnequal next ifAccepted lengthFault first refuseFirst sizeFault rowStartCountFault rowStartsFault entryCountFault columnFault valueFault shapeFault patternFault csrFault productFault greatest segmentAt segmentCountFault oneSegmentFault poolCountFault notRisingAt breakpointsFault firstBreakpointFault lookupTimeFault lawsFault lookupFault countsFault listsFault adjointTrajectoryFault signalsFault adjointRunFault factorial reciprocalFactorial weighted omega4 power taylor runAlong notPositive boundFault noNodesFault tauFault radiusFault weightedBound weightsLengthFault roomFault sampleWeightsFault sampleFault samplesFault weightedBoundsFault stepLengthFault lengthsFault weightFault stepFault weightedStepFault firstFault put squareRoot
 points-hold = refl
