@@ -1,0 +1,3 @@
+pub mod Placing
+pub mod Digits
+pub mod Texts
