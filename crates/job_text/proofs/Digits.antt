@@ -1,16 +1,16 @@
 -- Digits of numbers: how many there are. Assumes nothing.
 use mathlib.Core.Path.{_≡_, refl, sym, ap, _∙_}
-use mathlib.Core.Bool.{Bool, true, false, cond}
-use mathlib.Core.List.{List, [], _∷_, _++_}
+use mathlib.Core.Bool.{cond}
+use mathlib.Core.List.{[], _∷_, _++_}
 use Prim.Native.Nat.{ℕ, zero, suc, _+_, _*_, _-_, _/_, _%_, _^_, _≤_, _<_}
-use native.Mathlib.Nat.{pow-suc, div-lt-iff-lt-mul, div-lt-self}
+use native.Mathlib.Nat.{pow-suc, div-lt-iff-lt-mul, div-lt-self, le-div-iff-mul-le, div-mul-le-self}
 use native.Mathlib.Numerals.{add-one}
 use native.Mathlib.Decide.{decLe}
 use native.Mathlib.Omega.{arith}
 use lib.Dec.{ltb}
 use lib.ListN.{length, length-append}
 use borrow.Author.Tests.{lt-ltb, le-ltb}
-use Rattle.job_text.specs.Text.{digit, digits, placesWithin, places, decimal, hexadecimal16}
+use Rattle.job_text.specs.Text.{digit, digits, placesWithin, places, decimal}
 
 pub digit-below-ten : (d : ℕ) → d < 10 → digit d ≡ 48 + d
 unfolding digit
@@ -75,6 +75,34 @@ places-at-most (suc k) n h = elim (decLe 10 n) [
       omega arith)
   | no l ↦ (let e = places-one n (omega arith) in omega arith)
 ]
+
+-- n is below 10 to its places, and at least a tenth of that: the first of its digits is no zero, but for 0 itself
+pub places-hold : (n : ℕ) → n < 10 ^ places n
+unfolding places placesWithin
+places-hold n = within n n (omega arith)
+  where
+    within : (f n : ℕ) → n ≤ f → n < 10 ^ placesWithin f n
+    within zero n p = omega arith
+    within (suc f) n p = elim (decLe 10 n) [
+      | yes l ↦ rw (le-ltb n 10 l, pow-suc)
+          (div-lt-iff-lt-mul {k = 10} {x = n} {y = 10 ^ placesWithin f (n / 10)} (omega arith) .0
+          (within f (n / 10) (shorter n f l p)))
+      | no l ↦ (let s : n < 10 = omega arith in rw (lt-ltb n 10 s) s)
+    ]
+
+pub no-leading-zero : (n : ℕ) → 0 < n → 10 ^ places n ≤ n * 10
+unfolding places placesWithin
+no-leading-zero n = within n n (omega arith)
+  where
+    within : (f n : ℕ) → n ≤ f → 0 < n → 10 ^ placesWithin f n ≤ n * 10
+    within zero n p h = absurd (omega arith)
+    within (suc f) n p h = elim (decLe 10 n) [
+      | yes l ↦ rw (le-ltb n 10 l, pow-suc)
+          (let some : 0 < n / 10 = le-div-iff-mul-le {k = 10} {x = 1} {y = n} (omega arith) .1 (omega arith) in
+          let r = within f (n / 10) (shorter n f l p) some in
+          omega (arith, r, div-mul-le-self n 10))
+      | no l ↦ (let s : n < 10 = omega arith in rw (lt-ltb n 10 s) (omega arith))
+    ]
 
 pub length-decimal : (n : ℕ) → length (decimal n) ≡ places n
 unfolding decimal

@@ -1,3 +1,4 @@
 pub mod Placing
 pub mod Digits
 pub mod Texts
+pub mod Only

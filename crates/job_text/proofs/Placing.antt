@@ -4,7 +4,7 @@ use mathlib.Core.List.{List, [], _∷_, _++_}
 use Prim.Native.Nat.{ℕ, suc, _+_, _≤_}
 use native.Mathlib.Nat.{zero-add, add-zero, add-suc, suc-add, add-assoc}
 use native.Mathlib.Omega.{arith}
-use lib.ListN.{length, take, drop, set, length-append}
+use lib.ListN.{length, drop, set, length-append}
 use lib.Seq.{sets, length-sets, sets-eq, take-at, drop-at}
 use Rattle.job_text.specs.Placed.{Placed, PlacedSome, Begins}
 

@@ -20,24 +20,25 @@ unfoldable pub digits : ℕ → ℕ → ℕ → List ℕ
 digits base zero n = []
 digits base (suc k) n = digits base k (n / base) ++ (digit (n % base) ∷ [])
 
--- how many decimal digits n has: one below 10, else one more than n / 10 has. The first number ends the recursion.
+-- how many decimal digits n has: one below 10, else one more than n / 10 has. The first number only bounds the recursion.
 unfoldable pub placesWithin : ℕ → ℕ → ℕ
 placesWithin zero n = 1
-placesWithin (suc fuel) n = cond (ltb n 10) 1 (suc (placesWithin fuel (n / 10)))
+placesWithin (suc bound) n = cond (ltb n 10) 1 (suc (placesWithin bound (n / 10)))
 
+-- n itself is bound enough
 unfoldable pub places : ℕ → ℕ
 places n = placesWithin n n
 
--- a count in decimal, with no leading zero
+-- a count: in decimal, with no leading zero (`no-leading-zero` of proofs/Digits.antt)
 unfoldable pub decimal : ℕ → List ℕ
 decimal n = digits 10 (places n) n
 
--- a 64-bit pattern as 16 hexadecimal digits
+-- a 64-bit pattern: 16 hexadecimal digits
 unfoldable pub hexadecimal16 : ℕ → List ℕ
 hexadecimal16 bits = digits 16 16 bits
 
--- A real is printed as a 64-bit pattern of it. If it is no NaN, it has one; which NaN's stands for a NaN is the
--- program's choice.
+-- A real: a 64-bit pattern of it. One that is no NaN has one pattern (`real-only` of proofs/Only.antt); which NaN's pattern
+-- stands for a NaN is the program's choice.
 pub record RealText (x : Float) (text : List ℕ) : Type 0 where
   pub bits : ℕ
   pub fits : bits < 2 ^ 64
@@ -51,9 +52,11 @@ pub data ValueText : Carried → List ℕ → Type 0 where
 
 -- ---- lines
 
+-- the byte that ends a line
 abbrev pub newline : ℕ
 newline = 10
 
+-- the byte before a number or a value
 abbrev pub space : ℕ
 space = 32
 
@@ -65,12 +68,12 @@ doneWord = 100 ∷ 111 ∷ 110 ∷ 101 ∷ space ∷ []
 abbrev pub refusedWord : List ℕ
 refusedWord = 114 ∷ 101 ∷ 102 ∷ 117 ∷ 115 ∷ 101 ∷ 100 ∷ []
 
--- one real a line
+-- reals, one a line
 pub data Lines : List Float → List ℕ → Type 0 where
   none : Lines [] []
   line : {x : Float} {xs : List Float} {t u : List ℕ} → RealText x t → Lines xs u → Lines (x ∷ xs) (t ++ (newline ∷ u))
 
--- each value after a single space
+-- values, each after a single space
 pub data Spaced : List Carried → List ℕ → Type 0 where
   none : Spaced [] []
   value : {v : Carried} {vs : List Carried} {t u : List ℕ} → ValueText v t → Spaced vs u → Spaced (v ∷ vs) (space ∷ (t ++ u))

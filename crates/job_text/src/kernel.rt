@@ -47,7 +47,7 @@ pub fn put_real(text: &mut [u8], at: usize, x: f64) -> usize
     put_digits(text, at, 16, 16, pattern(x))
 }
 
-// A bit pattern of x. For a NaN it is that of the quiet NaN with no payload.
+// A bit pattern of x. Every NaN is printed as one and the same; the contract only says that it is a NaN's.
 fn pattern(x: f64) -> u64
     ensures { λ r. ⌜ ofBits binary64 r ≡ x ⌝ }
 {
@@ -98,7 +98,7 @@ fn digit(d: u64) -> u8
     }
 }
 
-// Bytes.
+// Bytes, as they are.
 pub fn put_bytes(text: &mut [u8], at: usize, bytes: &[u8]) -> usize
     requires { ⌜ at + length (now bytes) ≤ length (now text) ⌝ }
     ensures { λ r. ⌜ Placed at (now (bytes .entry)) (now (text .entry)) (now (text .exit)) r ⌝ }

@@ -38,6 +38,7 @@ pub fn write_refused(refusal: Refusal, text: &mut [u8; TEXT]) -> usize
     put_byte(text, last, NEWLINE)
 }
 
+// The row of a refusal.
 fn row_of(refusal: Refusal) -> Row
     ensures { λ r. ⌜ listOf r ≡ count (numberOf refusal) ∷ valuesOf refusal ⌝ }
 {

@@ -1,6 +1,6 @@
 -- `kernel::put_digits` meets its contract: the digits of n / base, and behind them that of n % base. The measure is k.
 -- Assumes nothing.
-use mathlib.Core.Path.{_≡_, sym, ap, subst, _∙_}
+use mathlib.Core.Path.{_≡_, sym, ap, _∙_}
 use mathlib.Core.List.{List, [], _∷_, _++_}
 use Prim.Native.Nat.{ℕ, _+_, _-_, _/_, _%_, _≤_, _<_}
 use native.Mathlib.Nat.{mod-lt, lt-of-lt-of-le}
