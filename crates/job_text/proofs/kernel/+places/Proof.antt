@@ -1,9 +1,10 @@
 -- `kernel::places` meets its contract: below 10 there is one digit, else one more than n / 10 has. The measure is n.
 -- Assumes nothing.
-use mathlib.Core.Path.{sym, ap, subst, _∙_}
-use Prim.Native.Nat.{ℕ, _+_, _/_, _≤_, _<_}
-use native.Mathlib.Nat.{div-lt-self}
+use mathlib.Core.Path.{_≡_, sym, ap, subst, _∙_}
+use Prim.Native.Nat.{ℕ, _+_, _/_, _^_, _≤_, _<_}
+use native.Mathlib.Nat.{div-lt-self, div-le-self, lt-of-le-of-lt}
 use native.Mathlib.Omega.{arith}
+use Rattle.job_text.specs.Text.{places as Text·places}
 use Rattle.job_text.proofs.Digits.{places-one, places-more, twenty}
 use borrow.Fn.Kinds.{In}
 use borrow.Fn.PlainCycle.{Measures, is, falls, and}
@@ -14,8 +15,12 @@ use Rattle.job_text.proofs.kernel.+places.{statement}
 use Rattle.job_text.proofs.kernel.+places.Tie.{close}
 
 -- the recursion ends
-fewer : (n : ℕ) → 10 ≤ n → n / 10 < n
-fewer n h = div-lt-self (omega arith) (omega arith)
+fewer : (n t : ℕ) → 0 < n → n ≡ t → n / 10 < t
+fewer n t h e = subst (λ (j : ℕ). n / 10 < j) e (div-lt-self h (omega arith))
+
+-- and its count fits
+count-fits : (n r : ℕ) → n < 2 ^ 64 → r ≡ Text·places (n / 10) → r ≤ 20
+count-fits n r h e = rw e (twenty (n / 10) (lt-of-le-of-lt (div-le-self n 10) h))
 
 abbrev μ-places : Measures 0 places-kinds.ps ℕ
 μ-places κs a = a .0
@@ -29,14 +34,12 @@ places-below t = and 0 places-kinds.ps (falls 0 places-kinds.ps _<_ μ-places t)
 places-places-requires :
     (t : ℕ) →
     places-lts.Need-places-requires (places-below t, places.Post) (places-at t) places.Post
-places-places-requires t c κs = (subst (λ (j : ℕ). c .before .args .n / 10 < j) (c .before .pre .0) (fewer _ (c .if1 .left)), tt)
+places-places-requires t c κs = (fewer _ t (omega arith) (c .before .pre .0), tt)
 
 places-add-result :
     (t : ℕ) → places-lts.Need-add-result (places-below t, places.Post) (places-at t) places.Post
 places-add-result t c =
-    let e = places-more _ (c .before .if1 .left) in
-    let m = twenty _ (c .before .before .fits .n .fits) in
-    omega (arith, e, m, c .places .ensures)
+    omega (arith, count-fits _ _ (c .before .before .fits .n .fits) (c .places .ensures))
 
 places-returns :
     (t : ℕ) → places-lts.Need-returns (places-below t, places.Post) (places-at t) places.Post
