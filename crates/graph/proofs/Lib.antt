@@ -1,11 +1,2 @@
-pub mod First
-pub mod Sound
-pub mod Walk
-pub mod RowEntries
-pub mod WorkSlice
-pub mod Gershgorin
-pub mod Less
-pub mod GershgorinBound
-pub mod Reach
 pub mod ProductOutcome
 pub mod BoundAnswer

@@ -12,11 +12,11 @@ use Rattle.error.specs.Lengths.{lengthFault}
 use Rattle.error.specs.Refusals.{Answers}
 use Rattle.error.proofs.Checks.{refused-here, accepted-then, length-accepted}
 use Rattle.error.proofs.Left.{answers, fault-is, fault-accepted}
-use Rattle.graph.specs.Pattern.{Pattern, Laplacian}
-use Rattle.graph.specs.PatternChecks.{csrFault}
+use Rattle.graph_checks.specs.Pattern.{Pattern, Laplacian}
+use Rattle.graph_checks.specs.PatternChecks.{csrFault}
 use Rattle.graph.specs.ProductOutcome.{productFault}
-use Rattle.graph.specs.RowProduct.{rowProduct64}
-use Rattle.graph.proofs.Sound.{csr-accepted}
+use Rattle.graph_rows.specs.RowProduct.{rowProduct64}
+use Rattle.graph_checks.proofs.Sound.{csr-accepted}
 
 -- what a checked Laplacian has
 pub laplacian-is : {check : Checked} (n : ℕ) (starts cols : List ℕ) (vals : List Float)

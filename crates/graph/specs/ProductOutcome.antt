@@ -6,8 +6,8 @@ use lib.Ieee.{Float}
 use Rattle.error.specs.declared.Checked.{Checked}
 use Rattle.error.specs.Checks.{next, ifAccepted}
 use Rattle.error.specs.Lengths.{lengthFault}
-use Rattle.graph.specs.PatternChecks.{csrFault}
-use Rattle.graph.specs.RowProduct.{rowProduct64}
+use Rattle.graph_checks.specs.PatternChecks.{csrFault}
+use Rattle.graph_rows.specs.RowProduct.{rowProduct64}
 
 -- its checks: those of the Laplacian, then row 10 for the signal and for the output
 unfoldable pub productFault : ℕ → List ℕ → List ℕ → List Float → List Float → List Float → Checked

@@ -3,47 +3,16 @@
 ghost use mathlib.Core.Path.{_≡_};
 ghost use lib.Ieee.{binary64};
 ghost use Rattle.error.specs.Refusals.{Answers};
-ghost use Rattle.graph.specs.PatternChecks.{patternFault, csrFault};
-ghost use Rattle.graph.specs.Gershgorin.{gershgorinBound};
+ghost use Rattle.graph_checks.specs.PatternChecks.{csrFault};
+ghost use Rattle.graph_rows.specs.Gershgorin.{gershgorinBound};
 ghost use Rattle.graph.specs.BoundAnswer.{BoundAnswers};
 ghost use Rattle.graph.specs.ProductOutcome.{productOutcome};
 use error::Checked;
 use error::Refusal;
 use error::check_length;
-
-mod check;
-pub mod kernel;
-
-// Whether the parts make up a Laplacian: rows 6 and 1 to 5, in that order. The first row start need not be 0; the
-// entries before it belong to no row, and are checked like the others.
-pub fn from_csr_parts(n: usize, row_ptr: &[usize], col_idx: &[u32], vals: &[f64]) -> Checked
-    ensures { λ r. ⌜ Answers r (csrFault n (now («row_ptr» .entry)) (now («col_idx» .entry)) (now (vals .entry))) ⌝ }
-{
-    let shape = check::check_shape(n, row_ptr, col_idx.len());
-    let Checked::Accepted = shape else {
-        return shape;
-    };
-    let count = check::check_entry_count(vals.len(), row_ptr[n]);
-    let Checked::Accepted = count else {
-        return count;
-    };
-    let columns = check::check_columns(n, row_ptr, col_idx);
-    let Checked::Accepted = columns else {
-        return columns;
-    };
-    check::check_values(n, row_ptr, vals)
-}
-
-// The same of a pattern, which has no values: rows 6 and 1 to 4, row 3 for the columns alone.
-pub fn check_pattern(n: usize, row_ptr: &[usize], col_idx: &[u32]) -> Checked
-    ensures { λ r. ⌜ Answers r (patternFault n (now («row_ptr» .entry)) (now («col_idx» .entry))) ⌝ }
-{
-    let shape = check::check_shape(n, row_ptr, col_idx.len());
-    let Checked::Accepted = shape else {
-        return shape;
-    };
-    check::check_columns(n, row_ptr, col_idx)
-}
+// the checks, callable from here too
+pub use graph_checks::check_pattern;
+pub use graph_checks::from_csr_parts;
 
 // What `gershgorin_bound_csr` answers: the bound, or why there is none.
 pub enum Bounded {
@@ -59,7 +28,7 @@ pub fn gershgorin_bound_csr(n: usize, row_ptr: &[usize], col_idx: &[u32], vals: 
 {
     let checked = from_csr_parts(n, row_ptr, col_idx, vals);
     let Checked::Refused(refusal) = checked else {
-        return Bounded::Bound(kernel::gershgorin(row_ptr, vals));
+        return Bounded::Bound(graph_rows::kernel::gershgorin(row_ptr, vals));
     };
     Bounded::Refused(refusal)
 }
@@ -92,6 +61,6 @@ pub fn apply_into_slice(
     let Checked::Accepted = output else {
         return output;
     };
-    kernel::product(row_ptr, col_idx, vals, src, dst);
+    graph_rows::kernel::product(row_ptr, col_idx, vals, src, dst);
     Checked::Accepted
 }

@@ -5,10 +5,10 @@ use Prim.Native.Nat.{ℕ, _-_}
 use lib.ListN.{length}
 use lib.Ieee.{Float}
 use borrow.Author.Needs.{needs}
-use Rattle.graph.specs.Pattern.{Rows, Laplacian}
+use Rattle.graph_checks.specs.Pattern.{Rows, Laplacian}
 use Rattle.graph.proofs.BoundAnswer.{bound-given, bound-refused}
 use Rattle.graph.proofs.ProductOutcome.{laplacian-is}
-use Rattle.graph.proofs.RowEntries.{rows-by-starts}
+use Rattle.graph_rows.proofs.RowEntries.{rows-by-starts}
 use Rattle.graph.proofs.gershgorin_bound_csr.Statement.{statement}
 use Rattle.graph.proofs.gershgorin_bound_csr.Tie as tie
 

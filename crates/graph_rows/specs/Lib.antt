@@ -1,0 +1,2 @@
+pub mod RowProduct
+pub mod Gershgorin
