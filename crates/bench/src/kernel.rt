@@ -1,8 +1,8 @@
 // What a driver may call only with slices that a check has accepted.
 ghost use mathlib.Core.Path.{_≡_};
 ghost use lib.ListN.{length};
-ghost use Rattle.graph.specs.Pattern.{Pattern};
-use graph::kernel::product;
+ghost use Rattle.graph_checks.specs.Pattern.{Pattern};
+use graph_rows::kernel::product;
 
 // The row product alone, for a pattern that the caller has had checked.
 #[no_mangle]

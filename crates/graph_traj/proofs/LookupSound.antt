@@ -16,7 +16,7 @@ use Rattle.error.specs.Checks.{refuseIf}
 use Rattle.error.specs.declared.Refusal.{Refusal}
 use Rattle.error.specs.declared.Checked.the-variants.{Accepted}
 use Rattle.error.proofs.Checks.{refuseIf-accepted, refuseUnequal-accepted, next-accepted}
-use Rattle.graph.proofs.First.{refuseFirst-accepted}
+use Rattle.graph_checks.proofs.First.{refuseFirst-accepted}
 use Rattle.graph_traj.specs.Lookup.{breakpoint, Breakpoints, Inside}
 use Rattle.graph_traj.specs.TrajectoryChecks.{segmentCountFault, poolCountFault, notRisingAt, breakpointsFault}
 use Rattle.graph_traj.specs.TrajectoryChecks.{lookupTimeFault, lookupFault}

@@ -11,10 +11,10 @@ use lib.Ieee.{Float}
 use borrow.Author.Tests.{ltb-false, le-ltb, not-false}
 use Rattle.error.specs.declared.Checked.the-variants.{Accepted}
 use Rattle.error.proofs.Checks.{refuseIf-accepted, refuseUnequal-accepted, next-accepted}
-use Rattle.graph.specs.Pattern.{Pattern}
-use Rattle.graph.specs.PatternChecks.{patternFault}
-use Rattle.graph.proofs.First.{refuseFirst-accepted}
-use Rattle.graph.proofs.Sound.{pattern-accepted, values-accepted}
+use Rattle.graph_checks.specs.Pattern.{Pattern}
+use Rattle.graph_checks.specs.PatternChecks.{patternFault}
+use Rattle.graph_checks.proofs.First.{refuseFirst-accepted}
+use Rattle.graph_checks.proofs.Sound.{pattern-accepted, values-accepted}
 use Rattle.graph_traj.specs.Lookup.{breakpoint, Breakpoints}
 use Rattle.graph_traj.specs.Trajectory.{Trajectory, Counts, Lists, AcceptedTrajectory, FromZero, AcceptedAdjointTrajectory}
 use Rattle.graph_traj.specs.TrajectoryChecks.{breakpointsFault, firstBreakpointFault, oneSegmentFault, lawsFault, countsFault}

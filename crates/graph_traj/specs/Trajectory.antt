@@ -7,7 +7,7 @@ use Prim.Native.Nat.{ℕ, _+_, _*_, _≤_, _<_}
 use lib.ListN.{length, getD}
 use lib.Ieee.{Float, nan, eq, binary64, ofBits}
 use lib.Ieee.Scale.{finite}
-use Rattle.graph.specs.Pattern.{Pattern}
+use Rattle.graph_checks.specs.Pattern.{Pattern}
 use Rattle.graph_traj.specs.Lookup.{breakpoint, Breakpoints}
 
 -- One pattern for all segments, the breakpoints between them, and for each segment a start list and an end list, one value for each

@@ -12,8 +12,8 @@ use Rattle.arithmetic.specs.Arithmetic.{Arithmetic, ieee}
 use Rattle.error.specs.Checks.{refuseIf, refuseUnequal, next}
 use Rattle.error.specs.declared.Refusal.the-variants.{SegmentCount, PoolCount, Breakpoint, FirstBreakpoint, LookupTime, Law}
 use Rattle.error.specs.declared.Checked.{Checked}
-use Rattle.graph.specs.First.{refuseFirst}
-use Rattle.graph.specs.PatternChecks.{patternFault, valueFault}
+use Rattle.graph_checks.specs.First.{refuseFirst}
+use Rattle.graph_checks.specs.PatternChecks.{patternFault, valueFault}
 use Rattle.graph_traj.specs.Lookup.{breakpoint}
 use Rattle.graph_traj.specs.Trajectory.{Trajectory}
 open Arithmetic (ieee binary64) using (zero)

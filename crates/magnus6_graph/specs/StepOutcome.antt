@@ -13,7 +13,7 @@ use Rattle.error.specs.declared.Checked.{Checked}
 use Rattle.error.specs.declared.Checked.the-variants.{Accepted}
 use Rattle.error.specs.Checks.{ifAccepted}
 use Rattle.error.specs.Refusals.{Answers}
-use Rattle.graph.specs.RowProduct.{rowProduct64}
+use Rattle.graph_rows.specs.RowProduct.{rowProduct64}
 use Rattle.magnus.specs.Operators.{plainSum}
 use Rattle.magnus.specs.Omega6.{constants6}
 use Rattle.magnus.specs.Coefficients.{reciprocalFactorial}

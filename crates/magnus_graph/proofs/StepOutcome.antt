@@ -13,8 +13,8 @@ use Rattle.error.specs.declared.Refusal.{Refusal}
 use Rattle.error.specs.declared.Checked.{Checked}
 use Rattle.error.specs.declared.Checked.the-variants.{Accepted, Refused}
 use Rattle.error.proofs.Left.{answers, answers-accepted, left-unchanged, left-written}
-use Rattle.graph.specs.Pattern.{Laplacian, ValuedPattern}
-use Rattle.graph.specs.RowProduct.{rowProduct64}
+use Rattle.graph_checks.specs.Pattern.{Laplacian, ValuedPattern}
+use Rattle.graph_rows.specs.RowProduct.{rowProduct64}
 use Rattle.magnus.specs.Operators.{plainSum}
 use Rattle.magnus.specs.Coefficients.{reciprocalFactorial}
 use Rattle.magnus.specs.Agree.{OfFormat}

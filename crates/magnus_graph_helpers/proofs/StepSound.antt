@@ -16,9 +16,9 @@ use Rattle.error.specs.declared.Refusal.{Refusal}
 use Rattle.error.specs.declared.Checked.{Checked}
 use Rattle.error.specs.declared.Checked.the-variants.{Accepted, Refused}
 use Rattle.error.proofs.Checks.{refuseIf-accepted, next-accepted, length-accepted}
-use Rattle.graph.specs.Pattern.{Laplacian}
-use Rattle.graph.proofs.First.{refuseFirst-accepted}
-use Rattle.graph.proofs.Sound.{csr-accepted}
+use Rattle.graph_checks.specs.Pattern.{Laplacian}
+use Rattle.graph_checks.proofs.First.{refuseFirst-accepted}
+use Rattle.graph_checks.proofs.Sound.{csr-accepted}
 use Rattle.magnus_graph_helpers.specs.StepChecks.{Sample, boundFault, noNodesFault, tauFault, radiusFault, weightedBound}
 use Rattle.magnus_graph_helpers.specs.StepChecks.{weightsLengthFault, roomFault, sampleWeightsFault, sampleFault}
 use Rattle.magnus_graph_helpers.specs.StepChecks.{samplesFault, weightedBoundsFault, stepLengthFault, lengthsFault}

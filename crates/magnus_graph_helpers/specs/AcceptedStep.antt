@@ -7,7 +7,7 @@ use lib.ListN.{length, getD}
 use lib.Ieee.{Float, nan, binary64, lt, le, mul}
 use lib.Ieee.Scale.{finite}
 use Rattle.rounding.specs.SignOfZero.{+0}
-use Rattle.graph.specs.Pattern.{Laplacian}
+use Rattle.graph_checks.specs.Pattern.{Laplacian}
 use Rattle.magnus_graph_helpers.specs.StepChecks.{Sample, halfPi, weightedBound}
 
 -- a bound or a weight: finite and above 0 (rows 9 and 11)

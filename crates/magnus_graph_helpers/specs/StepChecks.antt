@@ -12,8 +12,8 @@ use Rattle.error.specs.Checks.{refuseIf, next}
 use Rattle.error.specs.Lengths.{lengthFault}
 use Rattle.error.specs.declared.Refusal.the-variants.{Tau, Radius, Bound, Length, Weight, NoNodes}
 use Rattle.error.specs.declared.Checked.{Checked}
-use Rattle.graph.specs.First.{refuseFirst}
-use Rattle.graph.specs.PatternChecks.{csrFault}
+use Rattle.graph_checks.specs.First.{refuseFirst}
+use Rattle.graph_checks.specs.PatternChecks.{csrFault}
 open Arithmetic (ieee binary64) using (zero, _*_)
 
 infixl 70 _*_

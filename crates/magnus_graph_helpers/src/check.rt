@@ -4,7 +4,7 @@ ghost use mathlib.Core.Path.{_≡_};
 ghost use mathlib.Core.Bool.{not};
 ghost use lib.ListN.{length};
 ghost use Rattle.float.specs.All.{all};
-ghost use Rattle.graph.specs.First.{first};
+ghost use Rattle.graph_checks.specs.First.{first};
 ghost use Rattle.magnus_graph_helpers.specs.StepChecks.{notPositive, boundFault, noNodesFault, tauFault, radiusFault};
 ghost use Rattle.magnus_graph_helpers.specs.StepChecks.{weightsLengthFault, roomFault, notPositiveAt, sampleWeightsFault};
 ghost use Rattle.magnus_graph_helpers.specs.StepChecks.{sample, samplesFault, weightedBoundsFault, stepLengthFault};

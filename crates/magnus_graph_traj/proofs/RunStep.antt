@@ -19,9 +19,9 @@ use Rattle.error.specs.declared.Refusal.{Refusal}
 use Rattle.error.specs.declared.Checked.{Checked}
 use Rattle.error.specs.declared.Checked.the-variants.{Accepted, Refused}
 use Rattle.error.proofs.Checks.{refused-here, accepted-then}
-use Rattle.graph.specs.RowProduct.{rowProduct64}
-use Rattle.graph.proofs.First.{accepts-none}
-use Rattle.graph.proofs.WorkSlice.{lent-part}
+use Rattle.graph_rows.specs.RowProduct.{rowProduct64}
+use Rattle.graph_checks.proofs.First.{accepts-none}
+use Rattle.graph_scratch.proofs.WorkSlice.{lent-part}
 use Rattle.magnus.specs.Operators.{Operator, omega4}
 use Rattle.magnus.specs.Coefficients.{reciprocalFactorial}
 use Rattle.magnus_graph_helpers.specs.Terms.{TermAdded, TermsAdded}

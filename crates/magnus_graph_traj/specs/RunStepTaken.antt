@@ -9,7 +9,7 @@ use Rattle.scratch.specs.Parts.{part}
 use Rattle.error.specs.Checks.{next}
 use Rattle.error.specs.declared.Checked.{Checked}
 use Rattle.error.specs.declared.Checked.the-variants.{Accepted}
-use Rattle.graph.specs.RowProduct.{rowProduct64}
+use Rattle.graph_rows.specs.RowProduct.{rowProduct64}
 use Rattle.magnus_graph.specs.Omega4.{sqrt3Over12, expOmega4}
 use Rattle.graph_traj.specs.Laws.{valuesAt}
 use Rattle.magnus_graph_traj.specs.RunSteps.{sampledFault}

@@ -14,9 +14,9 @@ use Rattle.error.specs.Checks.{next}
 use Rattle.error.specs.declared.Refusal.the-variants.{SampledValue}
 use Rattle.error.specs.declared.Checked.{Checked}
 use Rattle.error.specs.declared.Checked.the-variants.{Accepted}
-use Rattle.graph.specs.First.{refuseFirst}
-use Rattle.graph.specs.PatternChecks.{notFiniteAt}
-use Rattle.graph.specs.RowProduct.{rowProduct64}
+use Rattle.graph_checks.specs.First.{refuseFirst}
+use Rattle.graph_checks.specs.PatternChecks.{notFiniteAt}
+use Rattle.graph_rows.specs.RowProduct.{rowProduct64}
 use Rattle.magnus.specs.Operators.{plainSum}
 use Rattle.magnus.specs.Coefficients.{reciprocalFactorial}
 use Rattle.magnus.specs.Agree.{agree}

@@ -14,7 +14,7 @@ use Rattle.scratch.proofs.Parts.{part-whole}
 use Rattle.error.specs.Checks.{next}
 use Rattle.error.specs.declared.Checked.{Checked}
 use Rattle.error.specs.declared.Checked.the-variants.{Accepted}
-use Rattle.graph.proofs.First.{accepts-none}
+use Rattle.graph_checks.proofs.First.{accepts-none}
 use Rattle.magnus_graph.specs.StepOutcome.{adjoint}
 use Rattle.magnus_graph_helpers.specs.StepChecks.{weightFault}
 use Rattle.graph_traj.specs.Laws.{lawValues, byLaw, valuesAt}

@@ -12,7 +12,7 @@ use Rattle.arithmetic.specs.Product.{plusScaled}
 use Rattle.arithmetic.proofs.Tabulate.{length-tabulate, tabulate-same, tabulate-elements}
 use Rattle.scratch.specs.Parts.{part, put}
 use Rattle.scratch.proofs.Parts.{wrote, length-part, put-of-put}
-use Rattle.graph.proofs.WorkSlice.{lent-part}
+use Rattle.graph_scratch.proofs.WorkSlice.{lent-part}
 use Rattle.magnus.specs.Operators.{Operator, weighted}
 use Rattle.magnus_graph_helpers.specs.Terms.{omega4Sum, TermAdded, TermsAdded}
 use Rattle.magnus_graph_helpers.proofs.Terms.{ProductPlaced, room-left, term4-added, TermsTurn, turns-next, turns-all}

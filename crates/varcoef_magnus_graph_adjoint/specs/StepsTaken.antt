@@ -11,7 +11,7 @@ use Rattle.square_root.specs.SquareRoot.{squareRoot}
 use Rattle.error.specs.Checks.{next}
 use Rattle.error.specs.declared.Checked.{Checked}
 use Rattle.error.specs.declared.Checked.the-variants.{Accepted}
-use Rattle.graph.specs.RowProduct.{rowProduct64}
+use Rattle.graph_rows.specs.RowProduct.{rowProduct64}
 use Rattle.magnus.specs.Operators.{weighted}
 use Rattle.magnus.specs.Run.{runAlong}
 use Rattle.magnus_graph.specs.Omega4.{expOmega4}

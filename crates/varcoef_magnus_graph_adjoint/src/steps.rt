@@ -3,7 +3,7 @@
 ghost use mathlib.Core.Path.{_≡_};
 ghost use Prim.Native.Nat.{_+_, _*_, _≤_, _<_};
 ghost use lib.ListN.{length};
-ghost use Rattle.graph.specs.Pattern.{Pattern, ValuedPattern};
+ghost use Rattle.graph_checks.specs.Pattern.{Pattern, ValuedPattern};
 ghost use Rattle.magnus_graph.specs.StepOutcome.{adjoint};
 ghost use Rattle.magnus_graph_helpers.specs.StepChecks.{weightFault};
 ghost use Rattle.graph_traj.specs.Laws.{fraction, lawValues};

@@ -5,7 +5,7 @@ use native.Mathlib.Omega.{arith}
 use borrow.Author.Needs.{needs}
 use Rattle.error.proofs.Checks.{refused-here, accepted-then}
 use Rattle.error.proofs.Left.{fault-is, fault-accepted}
-use Rattle.graph.proofs.Sound.{pattern-accepted}
+use Rattle.graph_checks.proofs.Sound.{pattern-accepted}
 use Rattle.graph_traj.specs.TrajectoryChecks.{adjointTrajectoryFault}
 use Rattle.graph_traj.proofs.TrajectorySound.{one-segment-accepted, breakpoints-counted}
 use Rattle.graph_traj.proofs.check.check_adjoint_trajectory.Statement.{statement}

@@ -3,7 +3,7 @@ use Prim.Native.Nat.{_-_}
 use native.Mathlib.Omega.{arith}
 use lib.ListN.{length}
 use borrow.Author.Tests.{lt-ltb, le-ltb}
-use Rattle.graph.proofs.First.{Passed, passed-none, passed-more, passed-found, refuses-first, accepts-none}
+use Rattle.graph_checks.proofs.First.{Passed, passed-none, passed-more, passed-found, refuses-first, accepts-none}
 use Rattle.graph_traj.specs.TrajectoryChecks.{unknownLawAt, lawsFault}
 use Rattle.graph_traj.proofs.check.check_laws.Statement.{statement}
 use Rattle.graph_traj.proofs.check.check_laws.Tie as tie

@@ -9,9 +9,9 @@ use lib.Ieee.{Float, nan}
 use lib.Ieee.Scale.{finite}
 use borrow.Author.Needs.{needs}
 use Rattle.float.specs.All.{all}
-use Rattle.graph.specs.First.{first}
-use Rattle.graph.specs.PatternChecks.{notFiniteAt, valueFault}
-use Rattle.graph.proofs.First.{none-fails, some-fails, refuses-first, accepts-none}
+use Rattle.graph_checks.specs.First.{first}
+use Rattle.graph_checks.specs.PatternChecks.{notFiniteAt, valueFault}
+use Rattle.graph_checks.proofs.First.{none-fails, some-fails, refuses-first, accepts-none}
 use Rattle.graph_traj.proofs.check.check_pool.Statement.{statement}
 use Rattle.graph_traj.proofs.check.check_pool.Tie as tie
 

@@ -4,7 +4,7 @@ use mathlib.Core.Path.{sym, _∙_}
 use borrow.Author.Needs.{needs}
 use Rattle.error.proofs.Checks.{refused-here, accepted-then}
 use Rattle.error.proofs.Left.{fault-is, fault-accepted}
-use Rattle.graph.proofs.Sound.{pattern-accepted}
+use Rattle.graph_checks.proofs.Sound.{pattern-accepted}
 use Rattle.graph_traj.specs.TrajectoryChecks.{trajectoryFault}
 use Rattle.graph_traj.proofs.LookupSound.{segment-count-accepted}
 use Rattle.graph_traj.proofs.check.check_trajectory.Statement.{statement}

@@ -6,8 +6,8 @@ use Prim.Native.Nat.{_-_, _<_}
 use native.Mathlib.Omega.{arith}
 use lib.ListN.{length}
 use borrow.Author.Needs.{needs}
-use Rattle.graph.proofs.First.{Passed, passed-none, passed-more, passed-found, passed-all}
-use Rattle.graph.specs.PatternChecks.{notFiniteAt}
+use Rattle.graph_checks.proofs.First.{Passed, passed-none, passed-more, passed-found, passed-all}
+use Rattle.graph_checks.specs.PatternChecks.{notFiniteAt}
 use Rattle.graph_traj.proofs.check.first_not_finite.Statement.{statement}
 use Rattle.graph_traj.proofs.check.first_not_finite.Tie as tie
 

@@ -4,7 +4,7 @@ use Prim.Native.Nat.{_-_, _*_}
 use native.Mathlib.Omega.{arith}
 use lib.Ieee.{binary64}
 use Rattle.arithmetic.specs.Arithmetic.{ieee}
-use Rattle.graph.specs.RowProduct.{rowProduct64}
+use Rattle.graph_rows.specs.RowProduct.{rowProduct64}
 use Rattle.magnus.specs.OperatorArithmetic.{onVectors}
 use Rattle.magnus.specs.Omega6.{constants6, omega6}
 use Rattle.magnus.specs.Coefficients.{reciprocalFactorial}

@@ -5,7 +5,7 @@ use lib.Ieee.{binary64, ofBits}
 use Rattle.arithmetic.specs.Arithmetic.{ieee}
 use Rattle.arithmetic.proofs.Tabulate.{length-tabulate}
 use Rattle.scratch.specs.Parts.{part}
-use Rattle.graph.specs.RowProduct.{rowProduct64}
+use Rattle.graph_rows.specs.RowProduct.{rowProduct64}
 use Rattle.magnus.specs.Omega6.{constants6}
 use Rattle.magnus6_graph_helpers.proofs.Omega6Parts.{c1-formed}
 use Rattle.magnus6_graph_helpers.proofs.omega6.form_c1.Statement.{statement}

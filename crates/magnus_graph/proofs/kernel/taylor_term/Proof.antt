@@ -8,7 +8,7 @@ use lib.Ieee.{binary64, ofBits, neg}
 use Rattle.rounding.specs.StepLength.{minusHalf}
 use Rattle.arithmetic.specs.Arithmetic.{ieee}
 use Rattle.arithmetic.proofs.Tabulate.{length-tabulate}
-use Rattle.graph.specs.RowProduct.{rowProduct64}
+use Rattle.graph_rows.specs.RowProduct.{rowProduct64}
 use Rattle.magnus_graph_helpers.proofs.Terms.{product-placed, room-left, term4-added}
 use borrow.Author.Needs.{needs}
 use Rattle.magnus_graph.proofs.kernel.taylor_term.Statement.{statement}

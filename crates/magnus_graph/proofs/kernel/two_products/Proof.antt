@@ -5,7 +5,7 @@ use mathlib.Core.List.{List}
 use native.Mathlib.Omega.{arith}
 use lib.Ieee.{Float}
 use Rattle.scratch.specs.Parts.{part, put}
-use Rattle.graph.specs.RowProduct.{rowProduct64}
+use Rattle.graph_rows.specs.RowProduct.{rowProduct64}
 use borrow.Author.Needs.{needs}
 use Rattle.magnus_graph.proofs.kernel.two_products.Statement.{statement}
 use Rattle.magnus_graph.proofs.kernel.two_products.Tie as tie

@@ -8,8 +8,8 @@ use lib.ListN.{length}
 use lib.Ieee.{Float, nan}
 use borrow.Author.Needs.{needs}
 use Rattle.float.specs.All.{all}
-use Rattle.graph.specs.First.{first}
-use Rattle.graph.proofs.First.{none-fails, some-fails, refuses-first, accepts-none}
+use Rattle.graph_checks.specs.First.{first}
+use Rattle.graph_checks.proofs.First.{none-fails, some-fails, refuses-first, accepts-none}
 use Rattle.magnus_graph_helpers.specs.StepChecks.{notPositive, notPositiveAt, sampleWeightsFault}
 use Rattle.magnus_graph_helpers.proofs.check.check_sample_weights.Statement.{statement}
 use Rattle.magnus_graph_helpers.proofs.check.check_sample_weights.Tie as tie

@@ -6,7 +6,7 @@ use native.Mathlib.Omega.{arith}
 use lib.ListN.{length}
 use borrow.Author.Needs.{needs}
 use borrow.Author.Tests.{not-true, not-false}
-use Rattle.graph.proofs.First.{Passed, passed-none, passed-more, passed-found, passed-all}
+use Rattle.graph_checks.proofs.First.{Passed, passed-none, passed-more, passed-found, passed-all}
 use Rattle.magnus_graph_helpers.specs.StepChecks.{notPositiveAt}
 use Rattle.magnus_graph_helpers.proofs.check.first_not_positive.Statement.{statement}
 use Rattle.magnus_graph_helpers.proofs.check.first_not_positive.Tie as tie

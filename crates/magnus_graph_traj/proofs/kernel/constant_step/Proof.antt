@@ -6,8 +6,8 @@ use lib.ListN.{length}
 use lib.Ieee.{binary64}
 use Rattle.rounding.specs.StepLength.{minusHalf}
 use Rattle.arithmetic.specs.Arithmetic.{ieee}
-use Rattle.graph.specs.RowProduct.{rowProduct64}
-use Rattle.graph.proofs.WorkSlice.{lent-part, length-lent-part}
+use Rattle.graph_rows.specs.RowProduct.{rowProduct64}
+use Rattle.graph_scratch.proofs.WorkSlice.{lent-part, length-lent-part}
 use Rattle.magnus.specs.Operators.{omega4}
 use Rattle.magnus_graph.specs.Omega4.{sqrt3Over12}
 use Rattle.magnus_graph_traj.proofs.RunStep.{terms-same}

@@ -8,8 +8,8 @@ use lib.Ieee.{binary64, nan, mul}
 use Rattle.arithmetic.specs.Arithmetic.{ieee}
 use Rattle.scratch.specs.Parts.{part}
 use Rattle.scratch.proofs.Writing.{fewer-turns, Written, written-none, written-next, written-all, part-kept, read-apart}
-use Rattle.graph.specs.RowProduct.{rowSum64}
-use Rattle.graph.proofs.WorkSlice.{lent-part, length-lent-part}
+use Rattle.graph_rows.specs.RowProduct.{rowSum64}
+use Rattle.graph_scratch.proofs.WorkSlice.{lent-part, length-lent-part}
 use Rattle.varcoef_magnus_graph.proofs.Terms.{rooted-walk}
 use Rattle.varcoef_magnus_graph.proofs.kernel.rooted_product_in.Statement.{statement}
 use Rattle.varcoef_magnus_graph.proofs.kernel.rooted_product_in.Tie as tie

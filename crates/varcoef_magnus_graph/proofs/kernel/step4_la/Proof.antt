@@ -11,7 +11,7 @@ use Rattle.rounding.specs.StepLength.{minusHalf}
 use Rattle.arithmetic.specs.Arithmetic.{ieee}
 use Rattle.arithmetic.proofs.Tabulate.{length-tabulate}
 use Rattle.square_root.specs.SquareRoot.{squareRoot}
-use Rattle.graph.specs.RowProduct.{rowProduct64}
+use Rattle.graph_rows.specs.RowProduct.{rowProduct64}
 use Rattle.varcoef_magnus_graph.specs.WeightedOmega4.{weightedOmega4}
 use Rattle.varcoef_magnus_graph.proofs.Terms.{all-loaded, step-done-la}
 use borrow.Author.Needs.{needs}

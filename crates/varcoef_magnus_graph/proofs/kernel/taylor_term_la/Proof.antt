@@ -9,7 +9,7 @@ use lib.Ieee.{binary64, ofBits, neg}
 use Rattle.rounding.specs.StepLength.{minusHalf}
 use Rattle.arithmetic.specs.Arithmetic.{ieee}
 use Rattle.scratch.specs.Parts.{part}
-use Rattle.graph.specs.RowProduct.{rowProduct64}
+use Rattle.graph_rows.specs.RowProduct.{rowProduct64}
 use Rattle.magnus.specs.Operators.{weighted}
 use Rattle.magnus_graph_helpers.proofs.Terms.{room-left, term4-added}
 use Rattle.varcoef_magnus_graph.proofs.Terms.{weighted-placed, roots-kept}

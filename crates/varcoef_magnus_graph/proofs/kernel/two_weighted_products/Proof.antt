@@ -5,7 +5,7 @@ use Prim.Native.Nat.{_*_}
 use native.Mathlib.Omega.{arith}
 use lib.Ieee.{binary64}
 use Rattle.arithmetic.specs.Arithmetic.{ieee}
-use Rattle.graph.specs.RowProduct.{rowProduct64}
+use Rattle.graph_rows.specs.RowProduct.{rowProduct64}
 use Rattle.varcoef_magnus_graph.specs.WeightedOmega4.{withProduct}
 use borrow.Author.Needs.{needs}
 use Rattle.varcoef_magnus_graph.proofs.kernel.two_weighted_products.Statement.{statement}

@@ -3,7 +3,7 @@
 use native.Mathlib.Omega.{arith}
 use lib.Ieee.{binary64}
 use Rattle.arithmetic.specs.Arithmetic.{ieee}
-use Rattle.graph.specs.RowProduct.{rowProduct64}
+use Rattle.graph_rows.specs.RowProduct.{rowProduct64}
 use Rattle.varcoef_magnus_graph.proofs.Terms.{weighted-written}
 use borrow.Author.Needs.{needs}
 use Rattle.varcoef_magnus_graph.proofs.kernel.weighted_product_in.Statement.{statement}

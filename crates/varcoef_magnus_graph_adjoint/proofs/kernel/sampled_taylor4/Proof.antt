@@ -7,7 +7,7 @@ use lib.ListN.{length}
 use lib.Ieee.{Float, binary64}
 use Rattle.rounding.specs.StepLength.{minusHalf}
 use Rattle.arithmetic.specs.Arithmetic.{ieee}
-use Rattle.graph.specs.RowProduct.{rowProduct64}
+use Rattle.graph_rows.specs.RowProduct.{rowProduct64}
 use Rattle.magnus.specs.Coefficients.{reciprocalFactorial}
 use Rattle.magnus_graph_helpers.proofs.Terms.{TermsTurn, turns-none}
 use Rattle.varcoef_magnus_graph.specs.WeightedOmega4.{weightedOmega4}

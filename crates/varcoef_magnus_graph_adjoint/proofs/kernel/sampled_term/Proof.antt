@@ -7,7 +7,7 @@ use lib.ListN.{length}
 use lib.Ieee.{binary64, ofBits, neg}
 use Rattle.rounding.specs.StepLength.{minusHalf}
 use Rattle.arithmetic.specs.Arithmetic.{ieee}
-use Rattle.graph.specs.RowProduct.{rowProduct64}
+use Rattle.graph_rows.specs.RowProduct.{rowProduct64}
 use Rattle.varcoef_magnus_graph_adjoint.proofs.Terms.{sampled-term-added}
 use borrow.Author.Needs.{needs}
 use Rattle.varcoef_magnus_graph_adjoint.proofs.kernel.sampled_term.Statement.{statement}

@@ -4,7 +4,7 @@ use native.Mathlib.Omega.{arith}
 use lib.ListN.{length}
 use lib.Ieee.{binary64}
 use Rattle.arithmetic.specs.Arithmetic.{ieee}
-use Rattle.graph.specs.RowProduct.{rowProduct64}
+use Rattle.graph_rows.specs.RowProduct.{rowProduct64}
 use Rattle.varcoef_magnus_graph_adjoint.proofs.Terms.{valued-written}
 use borrow.Author.Needs.{needs}
 use Rattle.varcoef_magnus_graph_adjoint.proofs.kernel.weighted_product_valued_in.Statement.{statement}
