@@ -1,3 +1,1 @@
-pub mod StepChecks
-pub mod AcceptedStep
 pub mod Terms

@@ -1,0 +1,2 @@
+pub mod Step6Checks
+pub mod AcceptedStep6

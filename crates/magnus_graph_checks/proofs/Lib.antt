@@ -1,0 +1,2 @@
+pub mod Positive
+pub mod StepSound

@@ -1,0 +1,2 @@
+pub mod WeightedStepChecks
+pub mod AcceptedWeightedStep
