@@ -15,10 +15,12 @@ use Rattle.error.proofs.Checks.{refuseIf-accepted, length-accepted}
 use Rattle.graph_traj.specs.Trajectory.{Trajectory}
 use Rattle.graph_traj.proofs.LookupSound.{count-accepted}
 use Rattle.graph_traj.proofs.TrajectorySound.{first-breakpoint-accepted, trajectory-accepted, adjoint-trajectory-accepted}
-use Rattle.magnus_graph_helpers.specs.AcceptedStep.{Positive, WithinRadius}
-use Rattle.magnus_graph_helpers.specs.StepChecks.{weightedBound}
-use Rattle.magnus_graph_helpers.proofs.StepSound.{bound-accepted, radius-accepted, room-accepted, weights-length-accepted}
-use Rattle.magnus_graph_helpers.proofs.StepSound.{weighted-bounds-accepted, step-length-accepted, _then_}
+use Rattle.magnus_graph_checks.specs.AcceptedStep.{Positive, WithinRadius}
+use Rattle.varcoef_magnus_graph_checks.specs.WeightedStepChecks.{weightedBound}
+use Rattle.magnus_graph_checks.proofs.StepSound.{bound-accepted, radius-accepted, room-accepted}
+use Rattle.varcoef_magnus_graph_checks.proofs.WeightedStepSound.{weights-length-accepted}
+use Rattle.varcoef_magnus_graph_checks.proofs.WeightedStepSound.{weighted-bounds-accepted}
+use Rattle.magnus_graph_checks.proofs.StepSound.{step-length-accepted, _then_}
 use Rattle.graph_traj_checks.specs.RunChecks.{stepCountFault, adjointStepCountFault, tauOf, segmentsRadiusFault}
 use Rattle.graph_traj_checks.specs.RunChecks.{runNeed, weightedRunNeed, signalsFault, runLengthsFault}
 use Rattle.graph_traj_checks.specs.RunChecks.{weightedRunLengthsFault, runFault, adjointStepsFault, adjointRunFault}

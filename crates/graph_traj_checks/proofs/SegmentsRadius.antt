@@ -11,7 +11,7 @@ use Rattle.error.specs.declared.Checked.the-variants.{Accepted, Refused}
 use Rattle.graph_traj.specs.declared.kernel.Segment.{Segment}
 use Rattle.graph_traj.specs.Lookup.{breakpoint}
 use Rattle.graph_traj.specs.SegmentValue.{segmentOf}
-use Rattle.magnus_graph_helpers.specs.StepChecks.{radiusFault}
+use Rattle.magnus_graph_checks.specs.StepChecks.{radiusFault}
 use Rattle.graph_traj_checks.specs.Each.{each}
 use Rattle.graph_traj_checks.specs.RunChecks.{tauOf, segmentsRadiusFault}
 use Rattle.graph_traj_checks.proofs.Each.{each-none, each-accepted-then, each-refused-here}

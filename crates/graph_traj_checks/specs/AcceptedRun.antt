@@ -4,8 +4,8 @@ use mathlib.Core.Bool.{Bool}
 use Prim.Native.Nat.{ℕ, _≤_, _<_}
 use lib.Ieee.{Float}
 use Rattle.graph_traj.specs.Trajectory.{Trajectory, AcceptedTrajectory, FromZero, AcceptedAdjointTrajectory}
-use Rattle.magnus_graph_helpers.specs.AcceptedStep.{Positive, NotNegative, WithinRadius}
-use Rattle.magnus_graph_helpers.specs.StepChecks.{weightedBound}
+use Rattle.magnus_graph_checks.specs.AcceptedStep.{Positive, NotNegative, WithinRadius}
+use Rattle.varcoef_magnus_graph_checks.specs.WeightedStepChecks.{weightedBound}
 use Rattle.graph_traj_checks.specs.RunChecks.{tauOf, runNeed, weightedRunNeed}
 
 -- the signal and the output have n places (row 10)

@@ -14,8 +14,10 @@ use Rattle.graph_traj.specs.Lookup.{breakpoint}
 use Rattle.graph_traj.specs.Times.{segmentTau}
 use Rattle.graph_traj.specs.Trajectory.{Trajectory}
 use Rattle.graph_traj.specs.TrajectoryChecks.{firstBreakpointFault, trajectoryFault, adjointTrajectoryFault}
-use Rattle.magnus_graph_helpers.specs.StepChecks.{boundFault, weightedBoundsFault, weightedBound, radiusFault, stepLengthFault}
-use Rattle.magnus_graph_helpers.specs.StepChecks.{weightsLengthFault, roomFault}
+use Rattle.magnus_graph_checks.specs.StepChecks.{boundFault, radiusFault, stepLengthFault}
+use Rattle.varcoef_magnus_graph_checks.specs.WeightedStepChecks.{weightedBoundsFault, weightedBound}
+use Rattle.varcoef_magnus_graph_checks.specs.WeightedStepChecks.{weightsLengthFault}
+use Rattle.magnus_graph_checks.specs.StepChecks.{roomFault}
 use Rattle.graph_traj_checks.specs.Each.{each}
 
 -- ---- the rows of the table

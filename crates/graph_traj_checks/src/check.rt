@@ -13,12 +13,12 @@ use graph_traj::check::check_adjoint_trajectory;
 use graph_traj::check::check_first_breakpoint;
 use graph_traj::check::check_trajectory;
 use graph_traj::kernel::Segment;
-use magnus_graph_helpers::check::check_bound;
-use magnus_graph_helpers::check::check_radius;
-use magnus_graph_helpers::check::check_room;
-use magnus_graph_helpers::check::check_step_length;
-use magnus_graph_helpers::check::check_weighted_bounds;
-use magnus_graph_helpers::check::check_weights_length;
+use magnus_graph_checks::check_bound;
+use magnus_graph_checks::check_radius;
+use magnus_graph_checks::check_room;
+use magnus_graph_checks::check_step_length;
+use varcoef_magnus_graph_checks::check_weighted_bounds;
+use varcoef_magnus_graph_checks::check_weights_length;
 
 // Row 16 of a forward run: there are 1 to 65,535 steps.
 pub fn check_step_count(steps: usize) -> Checked

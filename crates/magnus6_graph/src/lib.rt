@@ -1,9 +1,9 @@
 // The step of order 6 (magnus6_graph.rs, magnus6_graph_helpers.rs; 01, part 9). It takes three samples, each with its own n, row starts,
 // columns and values.
-ghost use Rattle.magnus_graph_helpers.specs.StepChecks.{sample};
+ghost use Rattle.magnus_graph_checks.specs.StepChecks.{sample};
 ghost use Rattle.magnus6_graph.specs.StepOutcome.{step6Input, Stepped6};
 use error::Checked;
-use magnus_graph_helpers::check::check_step6;
+use magnus6_graph_checks::check_step6;
 use magnus6_graph_helpers::kernel::step6;
 
 // The step: dst becomes exp(Ω)·src by the Taylor sum of degree 6. Refused by rows 6 and 1 to 5 of each sample, 9, 7, 8, and 10 for the second

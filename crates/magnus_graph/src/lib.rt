@@ -1,11 +1,11 @@
 // Steps of order 4 (magnus_graph.rs, magnus_graph_helpers.rs, magnus_graph_adjoint.rs; 01, parts 6 and 8). A step takes two samples, each
 // with its own n, row starts, columns and values.
-ghost use Rattle.magnus_graph_helpers.specs.StepChecks.{sample};
+ghost use Rattle.magnus_graph_checks.specs.StepChecks.{sample};
 ghost use Rattle.magnus_graph.specs.StepOutcome.{stepInput, Stepped, forward, adjoint};
 use error::Checked;
 use kernel::SQRT3_OVER_12_F64;
 use kernel::step4;
-use magnus_graph_helpers::check::check_step;
+use magnus_graph_checks::check_step;
 
 pub mod kernel;
 

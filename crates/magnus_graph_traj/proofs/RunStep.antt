@@ -25,7 +25,7 @@ use Rattle.graph_scratch.proofs.WorkSlice.{lent-part}
 use Rattle.magnus.specs.Operators.{Operator, omega4}
 use Rattle.magnus.specs.Coefficients.{reciprocalFactorial}
 use Rattle.magnus_graph_helpers.specs.Terms.{TermAdded, TermsAdded}
-use Rattle.magnus_graph_helpers.proofs.StepSound.{refused-not-accepted}
+use Rattle.magnus_graph_checks.proofs.StepSound.{refused-not-accepted}
 use Rattle.magnus_graph_helpers.proofs.Terms.{ProductPlaced, product-placed}
 use Rattle.magnus_graph.specs.Omega4.{sqrt3Over12, expOmega4}
 use Rattle.graph_traj.specs.Laws.{lawValues, byLaw, valuesAt}

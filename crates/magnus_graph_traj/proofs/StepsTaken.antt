@@ -17,7 +17,7 @@ use Rattle.magnus.specs.Run.{runAlong}
 use Rattle.graph_traj.specs.declared.kernel.Segment.{Segment}
 use Rattle.graph_traj.specs.Lookup.{breakpoint}
 use Rattle.graph_traj.specs.Trajectory.{Trajectory}
-use Rattle.magnus_graph_helpers.proofs.StepSound.{refused-not-accepted}
+use Rattle.magnus_graph_checks.proofs.StepSound.{refused-not-accepted}
 use Rattle.magnus_graph_traj.specs.RunSteps.{RunStep, Course, segmentSteps, allSteps, sampleAt, runStepFault, runStepImage, firstFault}
 use Rattle.magnus_graph_traj.specs.StepsTaken.{StepAt, StepsTaken}
 

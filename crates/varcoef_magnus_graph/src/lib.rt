@@ -1,12 +1,12 @@
 // Steps of order 4 on graphs with node weights (varcoef_magnus_graph.rs; 01, parts 7 and 8): a step takes two samples, each with its own n, row
 // starts, columns and values, and the weights a1 and a2 of the nodes at the two sample times.
 ghost use Rattle.magnus_graph.specs.StepOutcome.{forward, adjoint};
-ghost use Rattle.magnus_graph_helpers.specs.StepChecks.{sample};
+ghost use Rattle.magnus_graph_checks.specs.StepChecks.{sample};
 ghost use Rattle.varcoef_magnus_graph.specs.StepOutcome.{stepInput, Stepped};
 use error::Checked;
 use kernel::SQRT3_OVER_12_F64;
 use kernel::step4_la;
-use magnus_graph_helpers::check::check_weighted_step;
+use varcoef_magnus_graph_checks::check_weighted_step;
 
 pub mod kernel;
 

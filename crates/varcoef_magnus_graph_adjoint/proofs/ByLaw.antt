@@ -16,7 +16,7 @@ use Rattle.error.specs.declared.Checked.{Checked}
 use Rattle.error.specs.declared.Checked.the-variants.{Accepted}
 use Rattle.graph_checks.proofs.First.{accepts-none}
 use Rattle.magnus_graph.specs.StepOutcome.{adjoint}
-use Rattle.magnus_graph_helpers.specs.StepChecks.{weightFault}
+use Rattle.varcoef_magnus_graph_checks.specs.WeightedStepChecks.{weightFault}
 use Rattle.graph_traj.specs.Laws.{lawValues, byLaw, valuesAt}
 use Rattle.graph_traj.specs.Lookup.{breakpoint}
 use Rattle.graph_traj.specs.Times.{c1, c2}

@@ -21,9 +21,9 @@ use Rattle.graph_rows.specs.RowProduct.{rowProduct64}
 use Rattle.magnus.specs.Operators.{taylor}
 use Rattle.magnus.specs.Coefficients.{reciprocalFactorial}
 use Rattle.magnus_graph.specs.StepOutcome.{adjoint}
-use Rattle.magnus_graph_helpers.specs.StepChecks.{sampleWeightsFault, weightFault}
+use Rattle.varcoef_magnus_graph_checks.specs.WeightedStepChecks.{sampleWeightsFault, weightFault}
 use Rattle.magnus_graph_helpers.specs.Terms.{TermsAdded}
-use Rattle.magnus_graph_helpers.proofs.StepSound.{refused-not-accepted}
+use Rattle.magnus_graph_checks.proofs.StepSound.{refused-not-accepted}
 use Rattle.varcoef_magnus_graph.specs.WeightedOmega4.{sqrt3Over12, weightedOmega4}
 use Rattle.graph_traj.specs.Laws.{lawValues}
 use Rattle.magnus_graph_traj.specs.RunSteps.{sampledFault}

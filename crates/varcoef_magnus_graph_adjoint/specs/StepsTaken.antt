@@ -16,7 +16,7 @@ use Rattle.magnus.specs.Operators.{weighted}
 use Rattle.magnus.specs.Run.{runAlong}
 use Rattle.magnus_graph.specs.Omega4.{expOmega4}
 use Rattle.magnus_graph.specs.StepOutcome.{adjoint}
-use Rattle.magnus_graph_helpers.specs.StepChecks.{weightFault}
+use Rattle.varcoef_magnus_graph_checks.specs.WeightedStepChecks.{weightFault}
 use Rattle.varcoef_magnus_graph.specs.WeightedOmega4.{sqrt3Over12}
 use Rattle.graph_traj.specs.Laws.{fraction, lawValues}
 use Rattle.graph_traj.specs.Times.{c1, c2, adjointStepStart, sampleTime}

@@ -14,7 +14,7 @@ use Rattle.magnus.specs.Coefficients.{reciprocalFactorial}
 use Rattle.magnus.specs.Agree.{agree}
 use Rattle.magnus.specs.Formed.{FormedOperator, formedWeighted, formedStep4}
 use Rattle.magnus_graph.specs.Omega4.{expOmega4}
-use Rattle.magnus_graph_helpers.specs.StepChecks.{weightFault}
+use Rattle.varcoef_magnus_graph_checks.specs.WeightedStepChecks.{weightFault}
 use Rattle.varcoef_magnus_graph.specs.WeightedOmega4.{sqrt3Over12}
 use Rattle.graph_traj.specs.Laws.{valuesAt}
 use Rattle.graph_traj.specs.Times.{c1, c2}

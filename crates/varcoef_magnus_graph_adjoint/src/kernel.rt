@@ -20,7 +20,7 @@ ghost use Rattle.square_root.specs.SquareRoot.{squareRoot};
 ghost use Rattle.graph_checks.specs.Pattern.{Pattern};
 ghost use Rattle.graph_rows.specs.RowProduct.{rowProduct64};
 ghost use Rattle.magnus.specs.Coefficients.{reciprocalFactorial};
-ghost use Rattle.magnus_graph_helpers.specs.StepChecks.{sampleWeightsFault};
+ghost use Rattle.varcoef_magnus_graph_checks.specs.WeightedStepChecks.{sampleWeightsFault};
 ghost use Rattle.magnus_graph_helpers.specs.Terms.{TermAdded, TermsAdded};
 ghost use Rattle.varcoef_magnus_graph.specs.WeightedOmega4.{weightedOmega4, withProduct};
 ghost use Rattle.graph_traj.specs.Laws.{lawValues};
@@ -30,7 +30,6 @@ use error::Refusal;
 use graph_rows::kernel::row_sum;
 use graph_traj::check::first_not_finite;
 use graph_traj::kernel::law_value;
-use magnus_graph_helpers::check::check_sample_weights;
 use magnus_graph_helpers::kernel::omega_sum;
 use magnus_graph_helpers::kernel::reciprocal_factorial;
 use scratch::kernel::add_scaled;
@@ -38,6 +37,7 @@ use scratch::kernel::copy_within;
 use scratch::kernel::multiply;
 use square_root::kernel::estimate;
 use square_root::kernel::root_near;
+use varcoef_magnus_graph_checks::check_sample_weights;
 
 // ---- samples of law 2
 

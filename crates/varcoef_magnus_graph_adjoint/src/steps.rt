@@ -5,7 +5,7 @@ ghost use Prim.Native.Nat.{_+_, _*_, _≤_, _<_};
 ghost use lib.ListN.{length};
 ghost use Rattle.graph_checks.specs.Pattern.{Pattern, ValuedPattern};
 ghost use Rattle.magnus_graph.specs.StepOutcome.{adjoint};
-ghost use Rattle.magnus_graph_helpers.specs.StepChecks.{weightFault};
+ghost use Rattle.varcoef_magnus_graph_checks.specs.WeightedStepChecks.{weightFault};
 ghost use Rattle.graph_traj.specs.Laws.{fraction, lawValues};
 ghost use Rattle.graph_traj.specs.Times.{c1, c2, adjointStepStart, sampleTime};
 ghost use Rattle.graph_traj.specs.Trajectory.{trajectory, AcceptedAdjointTrajectory};
@@ -18,10 +18,10 @@ use crate::kernel::sample_values;
 use crate::kernel::sampled_taylor4;
 use error::Checked;
 use graph_traj::kernel::Segment;
-use magnus_graph_helpers::check::check_sample_weights;
 use varcoef_magnus_graph::kernel::SQRT3_OVER_12_F64;
 use varcoef_magnus_graph::kernel::load_roots;
 use varcoef_magnus_graph::kernel::taylor4_la;
+use varcoef_magnus_graph_checks::check_sample_weights;
 
 // One step with samples of law 2 at two fractions of the way through the segment. Row 20 is checked for the first sample, then for the
 // second, and then row 11 for the weights of the first and of the second.

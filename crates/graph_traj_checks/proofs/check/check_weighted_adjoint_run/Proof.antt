@@ -5,7 +5,7 @@ use native.Mathlib.Omega.{arith}
 use borrow.Author.Needs.{needs}
 use Rattle.error.proofs.Checks.{refused-here, accepted-then}
 use Rattle.graph_traj.proofs.TrajectorySound.{adjoint-trajectory-accepted}
-use Rattle.magnus_graph_helpers.specs.StepChecks.{weightedBound}
+use Rattle.varcoef_magnus_graph_checks.specs.WeightedStepChecks.{weightedBound}
 use Rattle.graph_traj_checks.specs.RunChecks.{weightedAdjointRunFault}
 use Rattle.graph_traj_checks.proofs.Steps.{no-steps, some-steps}
 use Rattle.graph_traj_checks.proofs.check.check_weighted_adjoint_run.Statement.{statement}

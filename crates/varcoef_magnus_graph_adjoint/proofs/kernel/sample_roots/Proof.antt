@@ -5,7 +5,7 @@ use lib.ListN.{length}
 use lib.Ieee.{binary64}
 use Rattle.arithmetic.proofs.Tabulate.{length-tabulate}
 use Rattle.square_root.specs.SquareRoot.{squareRoot}
-use Rattle.magnus_graph_helpers.specs.StepChecks.{sampleWeightsFault}
+use Rattle.varcoef_magnus_graph_checks.specs.WeightedStepChecks.{sampleWeightsFault}
 use Rattle.graph_traj.specs.Laws.{lawValues}
 use Rattle.varcoef_magnus_graph_adjoint.proofs.Terms.{sampled-checked, sampled-image}
 use borrow.Author.Needs.{needs}
