@@ -18,8 +18,8 @@ use Rattle.error.specs.declared.Checked.the-variants.{Accepted}
 use Rattle.error.proofs.Checks.{refuseIf-accepted, refuseUnequal-accepted, next-accepted}
 use Rattle.graph_checks.proofs.First.{refuseFirst-accepted}
 use Rattle.graph_traj.specs.Lookup.{breakpoint, Breakpoints, Inside}
-use Rattle.graph_traj.specs.TrajectoryChecks.{segmentCountFault, poolCountFault, notRisingAt, breakpointsFault}
-use Rattle.graph_traj.specs.TrajectoryChecks.{lookupTimeFault, lookupFault}
+use Rattle.graph_traj.specs.LookupChecks.{segmentCountFault, poolCountFault, notRisingAt, breakpointsFault}
+use Rattle.graph_traj.specs.LookupChecks.{lookupTimeFault, lookupFault}
 
 -- neither of two tests holds
 neither : (a b : Bool) → ((a || b) ≡ false) ↔ ((a ≡ false) × (b ≡ false))

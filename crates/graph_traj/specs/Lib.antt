@@ -1,8 +1,4 @@
 pub mod Greatest
 pub mod Lookup
-pub mod Trajectory
-pub mod TrajectoryChecks
+pub mod LookupChecks
 pub mod LookupAnswer
-pub mod Times
-pub mod SegmentValue
-pub mod Laws

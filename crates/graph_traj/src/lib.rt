@@ -1,8 +1,7 @@
-// Trajectories (graph_traj.rs): segments between breakpoints, in each of which the values follow a law. Here are the lookup of a
-// time, the checks of a trajectory and the value of a segment that a run passes on from step to step.
+// Trajectories (graph_traj.rs): segments between breakpoints, in each of which the values follow a law. Here is the lookup of a time.
 ghost use Rattle.graph_traj.specs.Lookup.{segmentAt};
 ghost use Rattle.graph_traj.specs.LookupAnswer.{LookupAnswers};
-ghost use Rattle.graph_traj.specs.TrajectoryChecks.{lookupFault};
+ghost use Rattle.graph_traj.specs.LookupChecks.{lookupFault};
 use error::Checked;
 use error::Refusal;
 

@@ -7,7 +7,7 @@ use lib.ListN.{length}
 use borrow.Author.Needs.{needs}
 use borrow.Author.Tests.{not-true, not-false}
 use Rattle.graph_checks.proofs.First.{Passed, passed-none, passed-more, passed-found, refuses-first, accepts-none}
-use Rattle.graph_traj.specs.TrajectoryChecks.{notRisingAt, breakpointsFault}
+use Rattle.graph_traj.specs.LookupChecks.{notRisingAt, breakpointsFault}
 use Rattle.graph_traj.proofs.check.check_breakpoints.Statement.{statement}
 use Rattle.graph_traj.proofs.check.check_breakpoints.Tie as tie
 

@@ -6,7 +6,7 @@ use native.Mathlib.Omega.{arith}
 use lib.ListN.{length}
 use borrow.Author.Needs.{needs}
 use Rattle.error.proofs.Checks.{refused-here, accepted-then}
-use Rattle.graph_traj.specs.TrajectoryChecks.{lookupFault}
+use Rattle.graph_traj.specs.LookupChecks.{lookupFault}
 use Rattle.graph_traj.proofs.LookupSound.{segment-count-accepted, pool-count-accepted}
 use Rattle.graph_traj.proofs.check.check_lookup.Statement.{statement}
 use Rattle.graph_traj.proofs.check.check_lookup.Tie as tie

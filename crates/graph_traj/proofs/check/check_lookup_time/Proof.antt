@@ -2,7 +2,7 @@
 use mathlib.Core.Path.{ap}
 use mathlib.Core.Bool.{not}
 use Rattle.error.proofs.Checks.{refuses, accepts}
-use Rattle.graph_traj.specs.TrajectoryChecks.{lookupTimeFault}
+use Rattle.graph_traj.specs.LookupChecks.{lookupTimeFault}
 use Rattle.graph_traj.proofs.check.check_lookup_time.Statement.{statement}
 use Rattle.graph_traj.proofs.check.check_lookup_time.Tie as tie
 

@@ -1,6 +1,6 @@
 -- `check_pool_count` meets its contract: it makes the test of `poolCountFault`. Assumes nothing.
 use Rattle.error.proofs.Checks.{accepts-equal, refuses-unequal}
-use Rattle.graph_traj.specs.TrajectoryChecks.{poolCountFault}
+use Rattle.graph_traj.specs.LookupChecks.{poolCountFault}
 use Rattle.graph_traj.proofs.check.check_pool_count.Statement.{statement}
 use Rattle.graph_traj.proofs.check.check_pool_count.Tie as tie
 

@@ -1,6 +1,6 @@
 -- `check_segment_count` meets its contract: it makes the test of `segmentCountFault`. Assumes nothing.
 use Rattle.error.proofs.Checks.{refuses, accepts}
-use Rattle.graph_traj.specs.TrajectoryChecks.{segmentCountFault}
+use Rattle.graph_traj.specs.LookupChecks.{segmentCountFault}
 use Rattle.graph_traj.proofs.check.check_segment_count.Statement.{statement}
 use Rattle.graph_traj.proofs.check.check_segment_count.Tie as tie
 

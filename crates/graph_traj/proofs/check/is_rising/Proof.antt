@@ -10,7 +10,7 @@ use lib.Ieee.Scale.{finite}
 use borrow.Author.Needs.{needs}
 use borrow.Author.Tests.{lt-ltb, le-ltb}
 use Rattle.graph_traj.specs.Lookup.{breakpoint}
-use Rattle.graph_traj.specs.TrajectoryChecks.{notRisingAt}
+use Rattle.graph_traj.specs.LookupChecks.{notRisingAt}
 use Rattle.graph_traj.proofs.check.is_rising.Statement.{statement}
 use Rattle.graph_traj.proofs.check.is_rising.Tie as tie
 

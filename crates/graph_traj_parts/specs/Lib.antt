@@ -1,0 +1,2 @@
+pub mod Trajectory
+pub mod TrajectoryChecks

@@ -1,0 +1,2 @@
+pub mod CountsExact
+pub mod Laws

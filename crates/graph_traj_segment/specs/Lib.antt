@@ -1,0 +1,3 @@
+pub mod Times
+pub mod SegmentValue
+pub mod Laws
