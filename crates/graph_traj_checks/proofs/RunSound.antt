@@ -12,9 +12,9 @@ use borrow.Author.Tests.{eqb-true, eqb-false, ltb-false, le-ltb}
 use Rattle.error.specs.declared.Checked.{Checked}
 use Rattle.error.specs.declared.Checked.the-variants.{Accepted}
 use Rattle.error.proofs.Checks.{refuseIf-accepted, length-accepted}
-use Rattle.graph_traj.specs.Trajectory.{Trajectory}
+use Rattle.graph_traj_parts.specs.Trajectory.{Trajectory}
 use Rattle.graph_traj.proofs.LookupSound.{count-accepted}
-use Rattle.graph_traj.proofs.TrajectorySound.{first-breakpoint-accepted, trajectory-accepted, adjoint-trajectory-accepted}
+use Rattle.graph_traj_parts.proofs.TrajectorySound.{first-breakpoint-accepted, trajectory-accepted, adjoint-trajectory-accepted}
 use Rattle.magnus_graph_checks.specs.AcceptedStep.{Positive, WithinRadius}
 use Rattle.varcoef_magnus_graph_checks.specs.WeightedStepChecks.{weightedBound}
 use Rattle.magnus_graph_checks.proofs.StepSound.{bound-accepted, radius-accepted, room-accepted}

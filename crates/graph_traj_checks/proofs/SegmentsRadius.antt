@@ -8,9 +8,9 @@ use lib.Ieee.{Float}
 use Rattle.error.specs.declared.Refusal.{Refusal}
 use Rattle.error.specs.declared.Checked.{Checked}
 use Rattle.error.specs.declared.Checked.the-variants.{Accepted, Refused}
-use Rattle.graph_traj.specs.declared.kernel.Segment.{Segment}
+use Rattle.graph_traj_segment.specs.declared.kernel.Segment.{Segment}
 use Rattle.graph_traj.specs.Lookup.{breakpoint}
-use Rattle.graph_traj.specs.SegmentValue.{segmentOf}
+use Rattle.graph_traj_segment.specs.SegmentValue.{segmentOf}
 use Rattle.magnus_graph_checks.specs.StepChecks.{radiusFault}
 use Rattle.graph_traj_checks.specs.Each.{each}
 use Rattle.graph_traj_checks.specs.RunChecks.{tauOf, segmentsRadiusFault}

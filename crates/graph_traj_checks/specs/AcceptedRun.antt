@@ -3,7 +3,7 @@ use mathlib.Core.Path.{_≡_}
 use mathlib.Core.Bool.{Bool}
 use Prim.Native.Nat.{ℕ, _≤_, _<_}
 use lib.Ieee.{Float}
-use Rattle.graph_traj.specs.Trajectory.{Trajectory, AcceptedTrajectory, FromZero, AcceptedAdjointTrajectory}
+use Rattle.graph_traj_parts.specs.Trajectory.{Trajectory, AcceptedTrajectory, FromZero, AcceptedAdjointTrajectory}
 use Rattle.magnus_graph_checks.specs.AcceptedStep.{Positive, NotNegative, WithinRadius}
 use Rattle.varcoef_magnus_graph_checks.specs.WeightedStepChecks.{weightedBound}
 use Rattle.graph_traj_checks.specs.RunChecks.{tauOf, runNeed, weightedRunNeed}

@@ -11,9 +11,9 @@ use Rattle.error.specs.Lengths.{lengthFault}
 use Rattle.error.specs.declared.Refusal.the-variants.{StepCount}
 use Rattle.error.specs.declared.Checked.{Checked}
 use Rattle.graph_traj.specs.Lookup.{breakpoint}
-use Rattle.graph_traj.specs.Times.{segmentTau}
-use Rattle.graph_traj.specs.Trajectory.{Trajectory}
-use Rattle.graph_traj.specs.TrajectoryChecks.{firstBreakpointFault, trajectoryFault, adjointTrajectoryFault}
+use Rattle.graph_traj_segment.specs.Times.{segmentTau}
+use Rattle.graph_traj_parts.specs.Trajectory.{Trajectory}
+use Rattle.graph_traj_parts.specs.TrajectoryChecks.{firstBreakpointFault, trajectoryFault, adjointTrajectoryFault}
 use Rattle.magnus_graph_checks.specs.StepChecks.{boundFault, radiusFault, stepLengthFault}
 use Rattle.varcoef_magnus_graph_checks.specs.WeightedStepChecks.{weightedBoundsFault, weightedBound}
 use Rattle.varcoef_magnus_graph_checks.specs.WeightedStepChecks.{weightsLengthFault}

@@ -14,8 +14,8 @@ use Rattle.arithmetic.proofs.Tabulate.{length-tabulate}
 use Rattle.error.specs.declared.Checked.{Checked}
 use Rattle.error.specs.declared.Checked.the-variants.{Accepted}
 use Rattle.magnus.specs.Agree.{OfFormat}
-use Rattle.graph_traj.specs.Times.{segmentTau}
-use Rattle.graph_traj.specs.Trajectory.{Trajectory}
+use Rattle.graph_traj_segment.specs.Times.{segmentTau}
+use Rattle.graph_traj_parts.specs.Trajectory.{Trajectory}
 use Rattle.graph_traj_checks.specs.AcceptedRun.{AcceptedRun, AcceptedAdjointRun}
 use Rattle.graph_traj_checks.proofs.RunSound.{run-accepted, adjoint-run-accepted}
 use Rattle.magnus_graph_traj.specs.RunSteps.{segmentSteps, allSteps}

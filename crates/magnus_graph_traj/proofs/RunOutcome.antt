@@ -25,8 +25,8 @@ use Rattle.magnus.proofs.PlainSum.{samples-plain-sum}
 use Rattle.magnus.proofs.PlainRun.{plain-run}
 use Rattle.magnus_graph.specs.Omega4.{sqrt3Over12}
 use Rattle.magnus_graph_checks.proofs.StepSound.{refused-not-accepted}
-use Rattle.graph_traj.specs.Times.{c1, c2}
-use Rattle.graph_traj.specs.Trajectory.{Trajectory}
+use Rattle.graph_traj_segment.specs.Times.{c1, c2}
+use Rattle.graph_traj_parts.specs.Trajectory.{Trajectory}
 use Rattle.graph_traj_checks.specs.RunChecks.{runNeed}
 use Rattle.magnus_graph_traj.specs.RunSteps.{RunStep, runStepFault, runStepImage, formedRunStep, stepAgrees, plainStep}
 use Rattle.magnus_graph_traj.specs.RunSteps.{firstFault}

@@ -13,8 +13,8 @@ use Rattle.scratch.specs.Parts.{part}
 use Rattle.scratch.proofs.Parts.{getD-part}
 use Rattle.magnus.specs.Agree.{OfFormat}
 use Rattle.magnus.proofs.Agree.{tabulate-of-format}
-use Rattle.graph_traj.specs.Laws.{lawValue, lawValues, byLaw, valuesAt}
-use Rattle.graph_traj.specs.Trajectory.{Trajectory}
+use Rattle.graph_traj_segment.specs.Laws.{lawValue, lawValues, byLaw, valuesAt}
+use Rattle.graph_traj_parts.specs.Trajectory.{Trajectory}
 use Rattle.magnus_graph_traj.specs.RunSteps.{RunStep, Course, sampleAt}
 
 -- a part of a list

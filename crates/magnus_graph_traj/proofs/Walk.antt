@@ -11,12 +11,12 @@ use Rattle.arithmetic.specs.Vector.{tabulate}
 use Rattle.error.specs.declared.Refusal.{Refusal}
 use Rattle.error.specs.declared.Checked.{Checked}
 use Rattle.error.specs.declared.Checked.the-variants.{Accepted, Refused}
-use Rattle.graph_traj.specs.declared.kernel.Segment.{Segment}
-use Rattle.graph_traj.specs.SegmentValue.{nextStep}
-use Rattle.graph_traj.specs.Laws.{fraction}
-use Rattle.graph_traj.specs.Times.{c1, c2, sampleTime}
-use Rattle.graph_traj.specs.Trajectory.{Trajectory, AcceptedTrajectory}
-use Rattle.graph_traj.proofs.Laws.{list-within}
+use Rattle.graph_traj_segment.specs.declared.kernel.Segment.{Segment}
+use Rattle.graph_traj_segment.specs.SegmentValue.{nextStep}
+use Rattle.graph_traj_segment.specs.Laws.{fraction}
+use Rattle.graph_traj_segment.specs.Times.{c1, c2, sampleTime}
+use Rattle.graph_traj_parts.specs.Trajectory.{Trajectory, AcceptedTrajectory}
+use Rattle.graph_traj_segment.proofs.Laws.{list-within}
 use Rattle.magnus_graph_traj.specs.RunSteps.{RunStep, Course, segmentSteps, allSteps}
 use Rattle.magnus_graph_traj.specs.RunStepTaken.{RunStepTaken}
 use Rattle.magnus_graph_traj.specs.StepsTaken.{StepAt, StepsTaken}

@@ -11,7 +11,7 @@ use Rattle.error.specs.declared.Checked.{Checked}
 use Rattle.error.specs.declared.Checked.the-variants.{Accepted}
 use Rattle.graph_rows.specs.RowProduct.{rowProduct64}
 use Rattle.magnus_graph.specs.Omega4.{sqrt3Over12, expOmega4}
-use Rattle.graph_traj.specs.Laws.{valuesAt}
+use Rattle.graph_traj_segment.specs.Laws.{valuesAt}
 use Rattle.magnus_graph_traj.specs.RunSteps.{sampledFault}
 
 -- a step in segment k of pools of lists of m values, m the number of columns, by the segment's law

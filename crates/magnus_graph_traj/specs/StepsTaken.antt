@@ -9,10 +9,10 @@ use Rattle.scratch.specs.Parts.{part}
 use Rattle.error.specs.declared.Checked.{Checked}
 use Rattle.error.specs.declared.Checked.the-variants.{Accepted}
 use Rattle.magnus.specs.Run.{runAlong}
-use Rattle.graph_traj.specs.declared.kernel.Segment.{Segment}
-use Rattle.graph_traj.specs.Laws.{fraction}
-use Rattle.graph_traj.specs.Times.{c1, c2, sampleTime}
-use Rattle.graph_traj.specs.Trajectory.{Trajectory}
+use Rattle.graph_traj_segment.specs.declared.kernel.Segment.{Segment}
+use Rattle.graph_traj_segment.specs.Laws.{fraction}
+use Rattle.graph_traj_segment.specs.Times.{c1, c2, sampleTime}
+use Rattle.graph_traj_parts.specs.Trajectory.{Trajectory}
 use Rattle.graph_traj_checks.specs.RunChecks.{runNeed}
 use Rattle.magnus_graph_traj.specs.RunSteps.{RunStep, Course, runStepFault, runStepImage, firstFault}
 use Rattle.magnus_graph_traj.specs.RunStepTaken.{RunStepTaken}

@@ -14,8 +14,8 @@ use lib.Ieee.Fits.{add-fits, nan-fits}
 use Rattle.scratch.specs.Parts.{part}
 use Rattle.scratch.proofs.Parts.{getD-part}
 use Rattle.magnus.specs.Agree.{OfFormat}
-use Rattle.graph_traj.specs.Laws.{lawValue, lawValues, byLaw, valuesAt}
-use Rattle.graph_traj.specs.Trajectory.{Trajectory}
+use Rattle.graph_traj_segment.specs.Laws.{lawValue, lawValues, byLaw, valuesAt}
+use Rattle.graph_traj_parts.specs.Trajectory.{Trajectory}
 use Rattle.magnus_graph_traj.specs.RunSteps.{RunStep, Course, sampleAt}
 
 tabulate-of-format : (g : ℕ → Float) (n : ℕ) → ((i : ℕ) → T (fits binary64 (g i))) → OfFormat binary64 (tabulate g n)

@@ -25,7 +25,7 @@ use Rattle.varcoef_magnus_graph_checks.specs.WeightedStepChecks.{sampleWeightsF
 use Rattle.magnus_graph_helpers.specs.Terms.{TermsAdded}
 use Rattle.magnus_graph_checks.proofs.StepSound.{refused-not-accepted}
 use Rattle.varcoef_magnus_graph.specs.WeightedOmega4.{sqrt3Over12, weightedOmega4}
-use Rattle.graph_traj.specs.Laws.{lawValues}
+use Rattle.graph_traj_segment.specs.Laws.{lawValues}
 use Rattle.magnus_graph_traj.specs.RunSteps.{sampledFault}
 use Rattle.varcoef_magnus_graph_adjoint.specs.StepsTaken.{Kept, StepTaken, stepFault, stepImage}
 use Rattle.varcoef_magnus_graph_adjoint.proofs.StepsTaken.{kept-then, kept-put}

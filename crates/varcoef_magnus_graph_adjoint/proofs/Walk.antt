@@ -26,10 +26,10 @@ use Rattle.varcoef_magnus_graph_checks.specs.WeightedStepChecks.{sampleWeightsF
 use Rattle.magnus_graph_helpers.specs.Terms.{TermsAdded}
 use Rattle.magnus_graph_checks.proofs.StepSound.{refused-not-accepted}
 use Rattle.varcoef_magnus_graph.specs.WeightedOmega4.{sqrt3Over12, weightedOmega4}
-use Rattle.graph_traj.specs.declared.kernel.Segment.{Segment}
-use Rattle.graph_traj.specs.SegmentValue.{nextStep}
-use Rattle.graph_traj.specs.Laws.{fraction, lawValues}
-use Rattle.graph_traj.specs.Times.{c1, c2, adjointStepStart, sampleTime}
+use Rattle.graph_traj_segment.specs.declared.kernel.Segment.{Segment}
+use Rattle.graph_traj_segment.specs.SegmentValue.{nextStep}
+use Rattle.graph_traj_segment.specs.Laws.{fraction, lawValues}
+use Rattle.graph_traj_segment.specs.Times.{c1, c2, adjointStepStart, sampleTime}
 use Rattle.magnus_graph_traj.specs.RunSteps.{RunStep, segmentSteps, firstFault}
 use Rattle.varcoef_magnus_graph_adjoint.specs.StepsTaken.{Kept, StepTaken, StepsTaken, stepImage, sampledStepFault, sampledStepImage}
 use Rattle.varcoef_magnus_graph_adjoint.proofs.StepsTaken.{run-along-append, first-fault-append, refusal-stays, segment-grows}

@@ -18,8 +18,8 @@ use Rattle.magnus_graph.specs.Omega4.{expOmega4}
 use Rattle.magnus_graph.specs.StepOutcome.{adjoint}
 use Rattle.varcoef_magnus_graph_checks.specs.WeightedStepChecks.{weightFault}
 use Rattle.varcoef_magnus_graph.specs.WeightedOmega4.{sqrt3Over12}
-use Rattle.graph_traj.specs.Laws.{fraction, lawValues}
-use Rattle.graph_traj.specs.Times.{c1, c2, adjointStepStart, sampleTime}
+use Rattle.graph_traj_segment.specs.Laws.{fraction, lawValues}
+use Rattle.graph_traj_segment.specs.Times.{c1, c2, adjointStepStart, sampleTime}
 use Rattle.magnus_graph_traj.specs.RunSteps.{RunStep, sampledFault, firstFault}
 
 -- the work slice w, now w′, is as long as it was, and the same from index `need` on

@@ -16,7 +16,7 @@ use Rattle.error.specs.Refusals.{Answers}
 use Rattle.magnus.specs.Formed.{FormedOperator}
 use Rattle.magnus.specs.Run.{runAlong, everyStep, formedAlong}
 use Rattle.magnus_graph.specs.StepOutcome.{adjoint}
-use Rattle.graph_traj.specs.Trajectory.{Trajectory}
+use Rattle.graph_traj_parts.specs.Trajectory.{Trajectory}
 use Rattle.graph_traj_checks.specs.RunChecks.{weightedRunNeed, weightedAdjointRunFault}
 use Rattle.magnus_graph_traj.specs.RunSteps.{RunStep, Course, adjointCourse, firstFault}
 use Rattle.varcoef_magnus_graph_adjoint.specs.WeightedRunSteps.{weightedRunStepFault, weightedRunStepImage, formedWeightedRunStep}

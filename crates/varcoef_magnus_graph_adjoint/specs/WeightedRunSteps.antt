@@ -16,9 +16,9 @@ use Rattle.magnus.specs.Formed.{FormedOperator, formedWeighted, formedStep4}
 use Rattle.magnus_graph.specs.Omega4.{expOmega4}
 use Rattle.varcoef_magnus_graph_checks.specs.WeightedStepChecks.{weightFault}
 use Rattle.varcoef_magnus_graph.specs.WeightedOmega4.{sqrt3Over12}
-use Rattle.graph_traj.specs.Laws.{valuesAt}
-use Rattle.graph_traj.specs.Times.{c1, c2}
-use Rattle.graph_traj.specs.Trajectory.{Trajectory}
+use Rattle.graph_traj_segment.specs.Laws.{valuesAt}
+use Rattle.graph_traj_segment.specs.Times.{c1, c2}
+use Rattle.graph_traj_parts.specs.Trajectory.{Trajectory}
 use Rattle.magnus_graph_traj.specs.RunSteps.{RunStep, Course, fractionAt, sampleAt, product, runStepFault, formedRunProduct, stepAgrees}
 
 module _ (t : Trajectory) (startWeights endWeights : List Float) (course : Course) where

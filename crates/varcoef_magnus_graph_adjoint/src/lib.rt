@@ -1,5 +1,5 @@
 // The weighted adjoint run along a trajectory (magnus_graph_adjoint.rs; 01, parts 7, 8 and 10).
-ghost use Rattle.graph_traj.specs.Trajectory.{trajectory};
+ghost use Rattle.graph_traj_parts.specs.Trajectory.{trajectory};
 ghost use Rattle.varcoef_magnus_graph_adjoint.specs.WeightedRunOutcome.{weightedAdjointRun, Ran};
 use error::Checked;
 use graph_traj_checks::check::check_weighted_adjoint_run;

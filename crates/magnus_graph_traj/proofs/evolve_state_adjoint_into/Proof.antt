@@ -7,7 +7,7 @@ use lib.Dec.{T}
 use Rattle.scratch.specs.Parts.{part}
 use Rattle.scratch.proofs.Parts.{part-whole}
 use native.Mathlib.Omega.{arith}
-use Rattle.graph_traj.specs.Trajectory.{trajectory}
+use Rattle.graph_traj_parts.specs.Trajectory.{trajectory}
 use Rattle.magnus_graph_traj.proofs.RunOutcome.{run-refused, run-copied, run-stopped, run-done}
 use Rattle.magnus_graph_traj.proofs.AcceptedRuns.{Lent, adjointOf, adjoint-accepted, adjoint-lengths, adjoint-some}
 use Rattle.magnus_graph_traj.proofs.AcceptedRuns.{adjoint-none, adjoint-format}

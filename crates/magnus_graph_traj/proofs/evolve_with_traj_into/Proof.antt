@@ -2,7 +2,7 @@
 -- slice, the steps are taken there, what is held after the last is stored, and the needed part of the work slice is cleared. Demand 3
 -- follows from the definitions. Assumes nothing.
 use native.Mathlib.Omega.{arith}
-use Rattle.graph_traj.specs.Trajectory.{trajectory}
+use Rattle.graph_traj_parts.specs.Trajectory.{trajectory}
 use Rattle.magnus_graph_traj.proofs.RunOutcome.{run-refused, run-stopped, run-done}
 use Rattle.magnus_graph_traj.proofs.AcceptedRuns.{Lent, forwardOf, forward-accepted, forward-lengths, forward-some, forward-format}
 use borrow.Author.Needs.{needs}

@@ -17,7 +17,7 @@ use Rattle.scratch.proofs.Parts.{part-whole}
 use Rattle.error.specs.declared.Checked.{Checked}
 use Rattle.error.specs.declared.Checked.the-variants.{Accepted}
 use Rattle.magnus_graph.specs.StepOutcome.{adjoint}
-use Rattle.graph_traj.specs.Trajectory.{Trajectory, trajectory}
+use Rattle.graph_traj_parts.specs.Trajectory.{Trajectory, trajectory}
 use Rattle.graph_traj_checks.specs.AcceptedRun.{AcceptedWeightedAdjointRun}
 use Rattle.graph_traj_checks.proofs.RunSound.{weighted-adjoint-run-accepted}
 use Rattle.magnus_graph_traj.specs.RunSteps.{segmentSteps, adjointCourse}

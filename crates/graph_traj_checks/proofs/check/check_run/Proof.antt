@@ -4,7 +4,7 @@ use mathlib.Core.Path.{sym, _∙_}
 use native.Mathlib.Omega.{arith}
 use borrow.Author.Needs.{needs}
 use Rattle.error.proofs.Checks.{refused-here, accepted-then}
-use Rattle.graph_traj.proofs.TrajectorySound.{trajectory-accepted}
+use Rattle.graph_traj_parts.proofs.TrajectorySound.{trajectory-accepted}
 use Rattle.graph_traj_checks.specs.RunChecks.{runFault}
 use Rattle.graph_traj_checks.proofs.RunSound.{step-count-accepted}
 use Rattle.graph_traj_checks.proofs.check.check_run.Statement.{statement}

@@ -8,7 +8,7 @@ use Rattle.arithmetic.specs.Arithmetic.{ieee, at}
 use Rattle.scratch.specs.Parts.{part}
 use Rattle.scratch.proofs.Parts.{getD-part}
 use Rattle.scratch.proofs.Writing.{Written, written-none, written-next, written-all}
-use Rattle.graph_traj.specs.Laws.{lawValue, lawValues}
+use Rattle.graph_traj_segment.specs.Laws.{lawValue, lawValues}
 use borrow.Author.Needs.{needs}
 use Rattle.magnus_graph_traj.proofs.kernel.sample_values.Statement.{statement}
 use Rattle.magnus_graph_traj.proofs.kernel.sample_values.Tie as tie

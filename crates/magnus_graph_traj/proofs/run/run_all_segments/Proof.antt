@@ -2,7 +2,7 @@
 use Prim.Native.Nat.{_-_}
 use native.Mathlib.Omega.{arith}
 use Rattle.magnus_graph.specs.StepOutcome.{forward}
-use Rattle.graph_traj.specs.Trajectory.{trajectory}
+use Rattle.graph_traj_parts.specs.Trajectory.{trajectory}
 use Rattle.magnus_graph_traj.specs.RunSteps.{segmentSteps, allSteps, forwardCourse}
 use Rattle.magnus_graph_traj.proofs.StepsTaken.{all-grow}
 use Rattle.magnus_graph_traj.proofs.Walk.{Walked, no-segments, walk-begins, walk-ends, walk-on, walk-stops}

@@ -1,6 +1,6 @@
 -- `step_at` meets its contract: its samples lie where the segment says, and what the kernel asks holds of an accepted trajectory.
 -- Assumes nothing.
-use Rattle.graph_traj.specs.Trajectory.{Trajectory, trajectory}
+use Rattle.graph_traj_parts.specs.Trajectory.{Trajectory, trajectory}
 use Rattle.magnus_graph_traj.proofs.Walk.{few-segments, law-given, law-known, lists-given, step-at}
 use borrow.Author.Needs.{needs}
 use Rattle.magnus_graph_traj.proofs.run.step_at.Statement.{statement}

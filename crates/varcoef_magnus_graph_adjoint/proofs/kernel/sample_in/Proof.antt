@@ -7,7 +7,7 @@ use lib.ListN.{length}
 use lib.Ieee.{binary64}
 use Rattle.arithmetic.specs.Arithmetic.{ieee, at}
 use Rattle.scratch.proofs.Writing.{Written, written-none, written-next, written-all}
-use Rattle.graph_traj.specs.Laws.{lawValue, lawValues}
+use Rattle.graph_traj_segment.specs.Laws.{lawValue, lawValues}
 use borrow.Author.Needs.{needs}
 use Rattle.varcoef_magnus_graph_adjoint.proofs.kernel.sample_in.Statement.{statement}
 use Rattle.varcoef_magnus_graph_adjoint.proofs.kernel.sample_in.Tie as tie

@@ -4,7 +4,7 @@ use mathlib.Core.Path.{_≡_, refl, ap, _∙_, subst}
 use Prim.Native.Nat.{ℕ, _≤_}
 use native.Mathlib.Omega.{arith}
 use lib.ListN.{length, getD}
-use Rattle.graph_traj.specs.Trajectory.{Trajectory, trajectory}
+use Rattle.graph_traj_parts.specs.Trajectory.{Trajectory, trajectory}
 use Rattle.varcoef_magnus_graph_adjoint.proofs.ByLaw.{taken-0, taken-1, taken-2, starts-size, ends-size, law-there, law-known}
 use Rattle.varcoef_magnus_graph_adjoint.proofs.ByLaw.{breakpoints-there}
 use borrow.Author.Needs.{needs}

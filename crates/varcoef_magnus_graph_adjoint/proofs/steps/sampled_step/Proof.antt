@@ -5,7 +5,7 @@ use mathlib.Core.List.{List}
 use native.Mathlib.Omega.{arith}
 use lib.ListN.{length}
 use lib.Ieee.{Float, ofBits, neg}
-use Rattle.graph_traj.specs.Laws.{lawValues}
+use Rattle.graph_traj_segment.specs.Laws.{lawValues}
 use Rattle.varcoef_magnus_graph_adjoint.proofs.SampledStep.{length-law-values, first-refused, second-refused, third-refused}
 use Rattle.varcoef_magnus_graph_adjoint.proofs.SampledStep.{fourth-refused, sampled-taken}
 use borrow.Author.Needs.{needs}
