@@ -1,2 +1,1 @@
-pub mod Omega6Parts
 pub mod Omega6Step

@@ -1,6 +1,7 @@
 // The step of order 6 (01, part 9) for callers that have checked its arguments. L1, L2 and L3 are the products with the three
 // samples. The step's vectors of n places lie one after the other in the work slice: at 0 the sum so far, at first the
-// signal and at last the answer; at n v, the signal and then its images under Ω; from 2n on those of src/omega6.rt.
+// signal and at last the answer; at n v, the signal and then its images under Ω; from 2n on those of the crate
+// magnus6_graph_parts (src/kernel.rt).
 ghost use mathlib.Core.Path.{_≡_};
 ghost use Prim.Native.Nat.{_*_, _≤_};
 ghost use lib.ListN.{length};
@@ -14,11 +15,10 @@ ghost use Rattle.magnus.specs.OperatorArithmetic.{onVectors};
 ghost use Rattle.magnus.specs.Coefficients.{reciprocalFactorial};
 ghost use Rattle.magnus_graph_helpers.specs.Terms.{TermAdded, TermsAdded};
 ghost use Rattle.magnus6_graph_helpers.specs.Omega6Step.{expOmega6};
-use crate::omega6::ONE_OVER_240;
-use crate::omega6::form_at_v;
-use crate::omega6::form_lop;
-use crate::omega6::form_rop;
 use magnus_graph_helpers::kernel::reciprocal_factorial;
+use magnus6_graph_operators::kernel::form_at_v;
+use magnus6_graph_operators::kernel::form_lop;
+use magnus6_graph_operators::kernel::form_rop;
 use scratch::kernel::add;
 use scratch::kernel::add_scaled;
 use scratch::kernel::clear;
@@ -26,6 +26,9 @@ use scratch::kernel::copy_within;
 use scratch::kernel::load;
 use scratch::kernel::scaled_difference;
 use scratch::kernel::store;
+
+// A constant of magnus6_graph_helpers.rs; its value is that of constants6 in the crate magnus.
+const ONE_OVER_240: f64 = 1.0 / 240.0;
 
 // One term of the Taylor sum (`apply_omega6` and `axpy_into_slice` of the Rust): v becomes Ωv, and coefficient · Ωv is
 // added to the sum.

@@ -7,7 +7,7 @@ use Rattle.arithmetic.specs.Arithmetic.{ieee}
 use Rattle.arithmetic.proofs.Tabulate.{length-tabulate}
 use Rattle.graph_rows.specs.RowProduct.{rowProduct64}
 use Rattle.magnus.specs.Omega6.{constants6}
-use Rattle.magnus6_graph_helpers.proofs.Omega6Parts.{term6-added}
+use Rattle.magnus6_graph_parts.proofs.Omega6Parts.{term6-added}
 use Rattle.magnus6_graph_helpers.proofs.kernel.taylor_term6.Statement.{statement}
 use Rattle.magnus6_graph_helpers.proofs.kernel.taylor_term6.Tie as tie
 

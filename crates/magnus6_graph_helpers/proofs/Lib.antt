@@ -1,2 +1,0 @@
-pub mod Omega6Parts
-pub mod Omega6Walks

@@ -1,0 +1,2 @@
+// The operators of the last commutator of order 6 at a vector (magnus6_graph_helpers.rs).
+pub mod kernel;

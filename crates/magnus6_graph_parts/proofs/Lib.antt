@@ -1,0 +1,2 @@
+pub mod Omega6Walks
+pub mod Omega6Parts
