@@ -3,11 +3,11 @@
 ghost use Rattle.magnus_graph_checks.specs.StepChecks.{sample};
 ghost use Rattle.magnus_graph.specs.StepOutcome.{stepInput, Stepped, forward, adjoint};
 use error::Checked;
-use kernel::SQRT3_OVER_12_F64;
-use kernel::step4;
 use magnus_graph_checks::check_step;
+use magnus_graph_step::kernel::step4;
 
-pub mod kernel;
+// The literal for √3/12 of the unweighted steps; its bits are those of sqrt3Over12 in specs/Omega4.antt.
+pub const SQRT3_OVER_12_F64: f64 = 0.144_337_567_297_406_433;
 
 // The forward step: dst becomes exp(Ω)·src by the Taylor sum of degree 4. Refused by rows 6 and 1 to 5 of each sample, 9, 7, 8, and 10 for the
 // second n, src, dst and work, whose need is 5n; a refusal leaves every slice as it was. Accepted, the first 5n elements of work become +0.

@@ -22,7 +22,7 @@ use Rattle.magnus.specs.Coefficients.{reciprocalFactorial}
 use Rattle.magnus.specs.Agree.{OfFormat}
 use Rattle.magnus.proofs.Agree.{agree-same}
 use Rattle.magnus.proofs.PlainSum.{weighted-samples-plain-sum}
-use Rattle.magnus_graph.specs.Omega4.{expOmega4}
+use Rattle.magnus_graph_step.specs.Omega4.{expOmega4}
 use Rattle.magnus_graph.proofs.StepOutcome.{valued}
 use Rattle.varcoef_magnus_graph_checks.specs.AcceptedWeightedStep.{AcceptedWeightedStep}
 use Rattle.varcoef_magnus_graph_checks.proofs.WeightedStepSound.{weighted-step-accepted}

@@ -4,11 +4,11 @@ ghost use Rattle.magnus_graph.specs.StepOutcome.{forward, adjoint};
 ghost use Rattle.magnus_graph_checks.specs.StepChecks.{sample};
 ghost use Rattle.varcoef_magnus_graph.specs.StepOutcome.{stepInput, Stepped};
 use error::Checked;
-use kernel::SQRT3_OVER_12_F64;
-use kernel::step4_la;
 use varcoef_magnus_graph_checks::check_weighted_step;
+use varcoef_magnus_graph_step::kernel::step4_la;
 
-pub mod kernel;
+// The literal for √3/12 of the weighted steps; its bits are those of sqrt3Over12 in specs/WeightedOmega4.antt.
+pub const SQRT3_OVER_12_F64: f64 = 0.144_337_567_297_406_45;
 
 // The forward step: dst becomes exp(Ω)·src by the Taylor sum of degree 4. Refused by rows 6 and 1 to 5 of each sample, 9, 12, 7, 8, 10 for the
 // second n, src, dst, the weights and work, whose need is 9n, and 11; a refusal leaves every slice as it was. Accepted, the first 9n elements
