@@ -27,7 +27,8 @@ use Rattle.magnus.specs.Coefficients.{reciprocalFactorial}
 use Rattle.magnus_graph_helpers.specs.Terms.{TermAdded, TermsAdded}
 use Rattle.magnus_graph_checks.proofs.StepSound.{refused-not-accepted}
 use Rattle.magnus_graph_helpers.proofs.Terms.{ProductPlaced, product-placed}
-use Rattle.magnus_graph.specs.Omega4.{sqrt3Over12, expOmega4}
+use Rattle.magnus_graph.specs.Omega4.{sqrt3Over12}
+use Rattle.magnus_graph_step.specs.Omega4.{expOmega4}
 use Rattle.graph_traj_segment.specs.Laws.{lawValues, byLaw, valuesAt}
 use Rattle.magnus_graph_traj.specs.RunSteps.{sampledFault}
 use Rattle.magnus_graph_traj.specs.RunStepTaken.{RunStepTaken}

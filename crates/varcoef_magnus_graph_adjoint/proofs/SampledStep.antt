@@ -24,7 +24,8 @@ use Rattle.magnus_graph.specs.StepOutcome.{adjoint}
 use Rattle.varcoef_magnus_graph_checks.specs.WeightedStepChecks.{sampleWeightsFault, weightFault}
 use Rattle.magnus_graph_helpers.specs.Terms.{TermsAdded}
 use Rattle.magnus_graph_checks.proofs.StepSound.{refused-not-accepted}
-use Rattle.varcoef_magnus_graph.specs.WeightedOmega4.{sqrt3Over12, weightedOmega4}
+use Rattle.varcoef_magnus_graph.specs.WeightedOmega4.{sqrt3Over12}
+use Rattle.varcoef_magnus_graph_step.specs.WeightedOmega4.{weightedOmega4}
 use Rattle.graph_traj_segment.specs.Laws.{lawValues}
 use Rattle.magnus_graph_traj.specs.RunSteps.{sampledFault}
 use Rattle.varcoef_magnus_graph_adjoint.specs.StepsTaken.{Kept, StepTaken, stepFault, stepImage}

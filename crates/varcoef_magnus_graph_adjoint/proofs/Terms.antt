@@ -16,8 +16,9 @@ use Rattle.graph_scratch.proofs.WorkSlice.{lent-part}
 use Rattle.magnus.specs.Operators.{Operator, weighted}
 use Rattle.magnus_graph_helpers.specs.Terms.{omega4Sum, TermAdded, TermsAdded}
 use Rattle.magnus_graph_helpers.proofs.Terms.{ProductPlaced, room-left, term4-added, TermsTurn, turns-next, turns-all}
-use Rattle.varcoef_magnus_graph.specs.WeightedOmega4.{weightedOmega4, withProduct}
-use Rattle.varcoef_magnus_graph.proofs.Terms.{weighted-written, weighted-placed}
+use Rattle.varcoef_magnus_graph_step.specs.WeightedOmega4.{weightedOmega4}
+use Rattle.varcoef_magnus_graph_products.specs.WeightedProduct.{withProduct}
+use Rattle.varcoef_magnus_graph_products.proofs.WeightedProduct.{weighted-written, weighted-placed}
 
 -- a walk that takes each of n elements of x to its image
 pub image-walk : {A : Type 0} (f : A → A) (d : A) (n : ℕ) (x : List A) → f d ≡ d → length x ≡ n

@@ -13,7 +13,7 @@ use Rattle.magnus.specs.Operators.{weighted, plainSum}
 use Rattle.magnus.specs.Coefficients.{reciprocalFactorial}
 use Rattle.magnus.specs.Agree.{agree}
 use Rattle.magnus.specs.Formed.{FormedOperator, formedWeighted, formedStep4}
-use Rattle.magnus_graph.specs.Omega4.{expOmega4}
+use Rattle.magnus_graph_step.specs.Omega4.{expOmega4}
 use Rattle.varcoef_magnus_graph_checks.specs.WeightedStepChecks.{weightFault}
 use Rattle.varcoef_magnus_graph.specs.WeightedOmega4.{sqrt3Over12}
 use Rattle.graph_traj_segment.specs.Laws.{valuesAt}

@@ -18,10 +18,10 @@ use crate::kernel::sample_values;
 use crate::kernel::sampled_taylor4;
 use error::Checked;
 use graph_traj_segment::kernel::Segment;
-use varcoef_magnus_graph::kernel::SQRT3_OVER_12_F64;
-use varcoef_magnus_graph::kernel::load_roots;
-use varcoef_magnus_graph::kernel::taylor4_la;
+use varcoef_magnus_graph::SQRT3_OVER_12_F64;
 use varcoef_magnus_graph_checks::check_sample_weights;
+use varcoef_magnus_graph_products::kernel::load_roots;
+use varcoef_magnus_graph_step::kernel::taylor4_la;
 
 // One step with samples of law 2 at two fractions of the way through the segment. Row 20 is checked for the first sample, then for the
 // second, and then row 11 for the weights of the first and of the second.

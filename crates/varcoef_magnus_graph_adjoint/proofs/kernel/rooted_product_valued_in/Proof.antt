@@ -11,7 +11,7 @@ use Rattle.scratch.specs.Parts.{part}
 use Rattle.scratch.proofs.Writing.{fewer-turns, Written, written-none, written-next, written-all, part-kept, read-apart}
 use Rattle.graph_rows.specs.RowProduct.{rowSum64}
 use Rattle.graph_scratch.proofs.WorkSlice.{lent-part, length-lent-part, outside-kept}
-use Rattle.varcoef_magnus_graph.proofs.Terms.{rooted-walk}
+use Rattle.varcoef_magnus_graph_products.proofs.WeightedProduct.{rooted-walk}
 use Rattle.varcoef_magnus_graph_adjoint.proofs.kernel.rooted_product_valued_in.Statement.{statement}
 use Rattle.varcoef_magnus_graph_adjoint.proofs.kernel.rooted_product_valued_in.Tie as tie
 

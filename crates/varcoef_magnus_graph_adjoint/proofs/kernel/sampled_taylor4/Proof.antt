@@ -10,7 +10,7 @@ use Rattle.arithmetic.specs.Arithmetic.{ieee}
 use Rattle.graph_rows.specs.RowProduct.{rowProduct64}
 use Rattle.magnus.specs.Coefficients.{reciprocalFactorial}
 use Rattle.magnus_graph_helpers.proofs.Terms.{TermsTurn, turns-none}
-use Rattle.varcoef_magnus_graph.specs.WeightedOmega4.{weightedOmega4}
+use Rattle.varcoef_magnus_graph_step.specs.WeightedOmega4.{weightedOmega4}
 use Rattle.varcoef_magnus_graph_adjoint.proofs.Terms.{operatorIn, turns-next-sampled, turns-all-sampled}
 use Rattle.varcoef_magnus_graph_adjoint.proofs.kernel.sampled_taylor4.Statement.{statement}
 use Rattle.varcoef_magnus_graph_adjoint.proofs.kernel.sampled_taylor4.Tie as tie
