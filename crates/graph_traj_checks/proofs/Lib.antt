@@ -1,4 +1,3 @@
 pub mod Each
 pub mod SegmentsRadius
 pub mod RunSound
-pub mod Steps

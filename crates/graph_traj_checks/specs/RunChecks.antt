@@ -1,6 +1,6 @@
--- The checks of the runs, forward and adjoint, unweighted and weighted: row 16 of document 01's table, rows 8 and 10 as the runs have
--- them, and the order of all rows that a run can answer before its first step. Assumes nothing.
-use mathlib.Core.Bool.{Bool, _||_, cond}
+-- The checks of the forward run: row 16 of document 01's table, rows 8 and 10 as the runs have them, and the order of all rows that the
+-- run can answer before its first step. Assumes nothing.
+use mathlib.Core.Bool.{Bool, _||_}
 use mathlib.Core.List.{List}
 use Prim.Native.Nat.{ℕ, _+_, _*_}
 use lib.Dec.{eqb, ltb}
@@ -13,11 +13,8 @@ use Rattle.error.specs.declared.Checked.{Checked}
 use Rattle.graph_traj.specs.Lookup.{breakpoint}
 use Rattle.graph_traj_segment.specs.Times.{segmentTau}
 use Rattle.graph_traj_parts.specs.Trajectory.{Trajectory}
-use Rattle.graph_traj_parts.specs.TrajectoryChecks.{firstBreakpointFault, trajectoryFault, adjointTrajectoryFault}
-use Rattle.magnus_graph_checks.specs.StepChecks.{boundFault, radiusFault, stepLengthFault}
-use Rattle.varcoef_magnus_graph_checks.specs.WeightedStepChecks.{weightedBoundsFault, weightedBound}
-use Rattle.varcoef_magnus_graph_checks.specs.WeightedStepChecks.{weightsLengthFault}
-use Rattle.magnus_graph_checks.specs.StepChecks.{roomFault}
+use Rattle.graph_traj_parts.specs.TrajectoryChecks.{firstBreakpointFault, trajectoryFault}
+use Rattle.magnus_graph_checks.specs.StepChecks.{boundFault, radiusFault, roomFault}
 use Rattle.graph_traj_checks.specs.Each.{each}
 
 -- ---- the rows of the table
@@ -25,10 +22,6 @@ use Rattle.graph_traj_checks.specs.Each.{each}
 -- row 16 of a forward run: no steps, or over 65,535
 unfoldable pub stepCountFault : ℕ → Checked
 stepCountFault steps = refuseIf (eqb steps 0 || ltb 65535 steps) (StepCount steps)
-
--- row 16 of an adjoint run, which may have no steps: over 65,535
-unfoldable pub adjointStepCountFault : ℕ → Checked
-adjointStepCountFault steps = refuseIf (ltb 65535 steps) (StepCount steps)
 
 -- τ of segment i
 abbrev pub tauOf : List Float → ℕ → ℕ → Float
@@ -39,12 +32,9 @@ unfoldable pub segmentsRadiusFault : Bool → Float → ℕ → List Float → �
 segmentsRadiusFault checked bound steps breakpoints segments =
     each (λ i. radiusFault checked (tauOf breakpoints steps i) bound) segments
 
--- the need of a run's work slice: 7n + 2m, weighted 11n + 2m
+-- the need of an unweighted run's work slice: 7n + 2m
 abbrev pub runNeed : Trajectory → ℕ
 runNeed t = 7 * t .nodes + 2 * length (t .cols)
-
-abbrev pub weightedRunNeed : Trajectory → ℕ
-weightedRunNeed t = 11 * t .nodes + 2 * length (t .cols)
 
 -- row 10 for the signal and the output
 unfoldable pub signalsFault : ℕ → ℕ → ℕ → Checked
@@ -53,11 +43,6 @@ signalsFault n signal output = next (lengthFault signal n) (lengthFault output n
 -- row 10 of an unweighted run: the signal, the output, the work slice
 unfoldable pub runLengthsFault : ℕ → ℕ → ℕ → ℕ → ℕ → Checked
 runLengthsFault n signal output work need = next (signalsFault n signal output) (roomFault work need)
-
--- row 10 of a weighted run: the signal, the output, the two lists of weights, the work slice
-unfoldable pub weightedRunLengthsFault : ℕ → ℕ → ℕ → ℕ → ℕ → ℕ → ℕ → Checked
-weightedRunLengthsFault n signal output starts ends work need =
-    next (signalsFault n signal output) (next (weightsLengthFault n starts ends) (roomFault work need))
 
 -- ---- their order
 
@@ -71,27 +56,3 @@ runFault t steps bound checked signal output work =
     (next (firstBreakpointFault (breakpoint (t .breakpoints) 0))
     (next (runLengthsFault (t .nodes) signal output work (runNeed t))
     (segmentsRadiusFault checked bound steps (t .breakpoints) (t .segments))))))
-
--- The steps of an adjoint run: 16, 7, 8. The bound is row 8's.
-unfoldable pub adjointStepsFault : ℕ → Float → Float → Bool → Checked
-adjointStepsFault steps τ bound checked = next (adjointStepCountFault steps) (stepLengthFault τ bound checked)
-
--- An adjoint run: 6 and 1 to 4, 13 to 15, 17, 19 and 5 of its trajectory, 9; then with no steps 10 for the signal and the output
--- alone, else 16, 7, 8, 10.
-unfoldable pub adjointRunFault : Trajectory → Float → ℕ → Float → Bool → ℕ → ℕ → ℕ → Checked
-adjointRunFault t τ steps bound checked signal output work =
-    next (adjointTrajectoryFault t)
-    (next (boundFault bound)
-    (cond (eqb steps 0) (signalsFault (t .nodes) signal output)
-    (next (adjointStepsFault steps τ bound checked)
-    (runLengthsFault (t .nodes) signal output work (runNeed t)))))
-
--- A weighted adjoint run: the same, with 9 for both bounds and 12, the weighted bound in 8, and the weights in 10. The weights, a
--- start list and an end list, are given by their lengths; row 11 is met within a step, since it is about sampled weights.
-unfoldable pub weightedAdjointRunFault : Trajectory → Float → ℕ → Float → Float → Bool → ℕ → ℕ → ℕ → ℕ → ℕ → Checked
-weightedAdjointRunFault t τ steps bound rootBound checked signal output starts ends work =
-    next (adjointTrajectoryFault t)
-    (next (weightedBoundsFault bound rootBound (t .nodes))
-    (cond (eqb steps 0) (signalsFault (t .nodes) signal output)
-    (next (adjointStepsFault steps τ (weightedBound bound rootBound) checked)
-    (weightedRunLengthsFault (t .nodes) signal output starts ends work (weightedRunNeed t)))))

@@ -1,0 +1,2 @@
+pub mod AdjointRunSound
+pub mod Steps

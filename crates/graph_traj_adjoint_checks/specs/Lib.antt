@@ -1,0 +1,2 @@
+pub mod AdjointRunChecks
+pub mod AcceptedAdjointRun
