@@ -16,7 +16,8 @@ use Rattle.error.specs.Refusals.{Answers}
 use Rattle.magnus.specs.Run.{runAlong, everyStep, formedAlong}
 use Rattle.magnus_graph.specs.StepOutcome.{forward, adjoint}
 use Rattle.graph_traj_parts.specs.Trajectory.{Trajectory}
-use Rattle.graph_traj_checks.specs.RunChecks.{runNeed, runFault, adjointRunFault}
+use Rattle.graph_traj_checks.specs.RunChecks.{runNeed, runFault}
+use Rattle.graph_traj_adjoint_checks.specs.AdjointRunChecks.{adjointRunFault}
 use Rattle.magnus_graph_traj.specs.RunSteps.{RunStep, Course, forwardCourse, adjointCourse, runStepFault, runStepImage}
 use Rattle.magnus_graph_traj.specs.RunSteps.{formedRunStep, stepAgrees, plainStep, firstFault}
 

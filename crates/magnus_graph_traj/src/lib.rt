@@ -2,7 +2,7 @@
 ghost use Rattle.graph_traj_parts.specs.Trajectory.{trajectory};
 ghost use Rattle.magnus_graph_traj.specs.RunOutcome.{forwardRun, adjointRun, Ran};
 use error::Checked;
-use graph_traj_checks::check::check_adjoint_run;
+use graph_traj_adjoint_checks::check_adjoint_run;
 use graph_traj_checks::check::check_run;
 use run::run_adjoint_steps;
 use run::run_all_segments;

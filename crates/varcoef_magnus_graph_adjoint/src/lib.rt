@@ -2,7 +2,7 @@
 ghost use Rattle.graph_traj_parts.specs.Trajectory.{trajectory};
 ghost use Rattle.varcoef_magnus_graph_adjoint.specs.WeightedRunOutcome.{weightedAdjointRun, Ran};
 use error::Checked;
-use graph_traj_checks::check::check_weighted_adjoint_run;
+use graph_traj_adjoint_checks::check_weighted_adjoint_run;
 use scratch::kernel::clear;
 use scratch::kernel::load;
 use scratch::kernel::store;
