@@ -1,14 +1,14 @@
--- `scratch::kernel::add` meets its contract: a turn reads the next elements of two vectors, which are apart from what is
+-- `scratch_sums::kernel::add` meets its contract: a turn reads the next elements of two vectors, which are apart from what is
 -- written, and writes their sum. Assumes nothing.
 use mathlib.Core.Path.{refl, ap₂}
 use Prim.Native.Nat.{_-_}
 use native.Mathlib.Omega.{arith}
 use lib.ListN.{getD}
 use lib.Ieee.{binary64, nan, add as plus}
 use Rattle.scratch.specs.Parts.{part}
 use Rattle.scratch.proofs.Writing.{Written, written-none, written-next, written-all, read-apart}
-use Rattle.scratch.proofs.kernel.add.Statement.{statement}
-use Rattle.scratch.proofs.kernel.add.Tie as tie
+use Rattle.scratch_sums.proofs.kernel.add.Statement.{statement}
+use Rattle.scratch_sums.proofs.kernel.add.Tie as tie
 
 abbrev Inv-loop : tie.InvT-loop
 Inv-loop work₀ n x y target i₀ work i =

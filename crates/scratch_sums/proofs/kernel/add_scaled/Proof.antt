@@ -1,20 +1,21 @@
--- `scratch::kernel::multiply` meets its contract: a turn reads the next elements of two vectors, which are apart from
--- what is written, and writes their product. Assumes nothing.
-use mathlib.Core.Path.{refl, ap₂}
+-- `scratch_sums::kernel::add_scaled` meets its contract: a turn reads the source's element, which is apart from what is
+-- written, and the target's, which is not yet written. One walk writes the signal sum. Assumes nothing.
 use Prim.Native.Nat.{_-_}
 use native.Mathlib.Omega.{arith}
-use lib.ListN.{getD}
-use lib.Ieee.{nan, mul, binary64}
+use lib.Ieee.{binary64, nan}
+use Rattle.arithmetic.specs.Arithmetic.{ieee}
+use Rattle.arithmetic.proofs.Product.{plusScaledAt, plus-scaled-walk}
 use Rattle.scratch.specs.Parts.{part}
-use Rattle.scratch.proofs.Writing.{Written, written-none, written-next, written-all, read-apart}
-use Rattle.scratch.proofs.kernel.multiply.Statement.{statement}
-use Rattle.scratch.proofs.kernel.multiply.Tie as tie
+use Rattle.scratch.proofs.Writing.{Written, written-none, written-next, written-all, read-apart, read-here}
+use Rattle.scratch_sums.proofs.kernel.add_scaled.Statement.{statement}
+use Rattle.scratch_sums.proofs.kernel.add_scaled.Tie as tie
 
 abbrev Inv-loop : tie.InvT-loop
-Inv-loop work₀ n x y target i₀ work i = Written target (λ k. mul binary64 (getD (part x n work₀) k nan) (getD (part y n work₀) k nan)) n work₀ i work
+Inv-loop work₀ n scale source target i₀ work i =
+    Written target (plusScaledAt (ieee binary64) (part target n work₀) scale (part source n work₀)) n work₀ i work
 
 abbrev μ-loop : tie.MeasureT-loop
-μ-loop work₀ n x y target i₀ work i = n - i
+μ-loop work₀ n scale source target i₀ work i = n - i
 
 loop-holds : tie.Need-loop-holds Inv-loop μ-loop
 loop-holds c = written-none _ _ _ _
@@ -54,21 +55,21 @@ loop-less c = omega arith
 
 loop-again : tie.Need-loop-again Inv-loop μ-loop
 loop-again c =
-    let start = c .before .before .before .before in
-    let apart = start .pre .1 in
+    let args = c .before .before .before .before .args in
+    let apart = c .before .before .before .before .pre .2 in
     let written = c .before .before .before .loop .inv in
-    let x-read = read-apart written (start .args .x) (apart .0) (omega arith) nan in
-    let y-read = read-apart written (start .args .y) (apart .1) (omega arith) nan in
-    written-next written (omega arith) _ _ (omega arith) (ap₂ (mul binary64) x-read y-read)
+    let target-read = read-here written (omega arith) nan in
+    let source-read = read-apart written (args .source) apart (omega arith) nan in
+    written-next written (omega arith) _ _ (omega arith) (cc (target-read, source-read))
 
 same-length : tie.Need-same-length Inv-loop μ-loop
 same-length c = c .before .loop .inv .length-kept
 
 returns : tie.Need-returns Inv-loop μ-loop
-returns c = written-all (c .before .loop .inv) (c .loop-test .left) refl
+returns c = written-all (c .before .loop .inv) (c .loop-test .left) (plus-scaled-walk (ieee binary64) _ _ _ _)
 
-pub multiply-spec : {M : Type 1} → statement M
-multiply-spec =
+pub add-scaled-spec : {M : Type 1} → statement M
+add-scaled-spec =
     tie.close
     (tie.spec
     Inv-loop

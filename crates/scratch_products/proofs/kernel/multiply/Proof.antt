@@ -1,25 +1,20 @@
--- `scratch::kernel::scaled_less` meets its contract: a turn reads the next elements of two vectors, which are apart from
--- what is written, and writes a multiple of the first less the second. Assumes nothing.
-use mathlib.Core.Path.{ap₂}
+-- `scratch_products::kernel::multiply` meets its contract: a turn reads the next elements of two vectors, which are apart from
+-- what is written, and writes their product. Assumes nothing.
+use mathlib.Core.Path.{refl, ap₂}
 use Prim.Native.Nat.{_-_}
 use native.Mathlib.Omega.{arith}
 use lib.ListN.{getD}
-use lib.Ieee.{binary64, nan, sub, mul}
-use Rattle.arithmetic.specs.Arithmetic.{ieee}
-use Rattle.arithmetic.proofs.Product.{scaled-less-walk}
+use lib.Ieee.{nan, mul, binary64}
 use Rattle.scratch.specs.Parts.{part}
 use Rattle.scratch.proofs.Writing.{Written, written-none, written-next, written-all, read-apart}
-use Rattle.scratch.proofs.kernel.scaled_less.Statement.{statement}
-use Rattle.scratch.proofs.kernel.scaled_less.Tie as tie
+use Rattle.scratch_products.proofs.kernel.multiply.Statement.{statement}
+use Rattle.scratch_products.proofs.kernel.multiply.Tie as tie
 
 abbrev Inv-loop : tie.InvT-loop
-Inv-loop work₀ n scale x y target i₀ work i =
-    Written target
-    (λ k. sub binary64 (mul binary64 scale (getD (part x n work₀) k nan)) (getD (part y n work₀) k nan))
-    n work₀ i work
+Inv-loop work₀ n x y target i₀ work i = Written target (λ k. mul binary64 (getD (part x n work₀) k nan) (getD (part y n work₀) k nan)) n work₀ i work
 
 abbrev μ-loop : tie.MeasureT-loop
-μ-loop work₀ n scale x y target i₀ work i = n - i
+μ-loop work₀ n x y target i₀ work i = n - i
 
 loop-holds : tie.Need-loop-holds Inv-loop μ-loop
 loop-holds c = written-none _ _ _ _
@@ -59,28 +54,21 @@ loop-less c = omega arith
 
 loop-again : tie.Need-loop-again Inv-loop μ-loop
 loop-again c =
-    let loop = c .before .before .before in
-    let start = loop .before in
+    let start = c .before .before .before .before in
     let apart = start .pre .1 in
-    let written = loop .loop .inv in
+    let written = c .before .before .before .loop .inv in
     let x-read = read-apart written (start .args .x) (apart .0) (omega arith) nan in
     let y-read = read-apart written (start .args .y) (apart .1) (omega arith) nan in
-    written-next written (omega arith) _ _ (omega arith)
-    (ap₂ (λ a b. sub binary64 (mul binary64 (start .args .scale) a) b) x-read y-read)
+    written-next written (omega arith) _ _ (omega arith) (ap₂ (mul binary64) x-read y-read)
 
 same-length : tie.Need-same-length Inv-loop μ-loop
 same-length c = c .before .loop .inv .length-kept
 
 returns : tie.Need-returns Inv-loop μ-loop
-returns c =
-    let args = c .before .before .args in
-    let n = args .n in
-    let work = args .work .now in
-    written-all (c .before .loop .inv) (c .loop-test .left)
-    (scaled-less-walk (ieee binary64) n (args .scale) (part (args .x) n work) (part (args .y) n work))
+returns c = written-all (c .before .loop .inv) (c .loop-test .left) refl
 
-pub scaled-less-spec : {M : Type 1} → statement M
-scaled-less-spec =
+pub multiply-spec : {M : Type 1} → statement M
+multiply-spec =
     tie.close
     (tie.spec
     Inv-loop

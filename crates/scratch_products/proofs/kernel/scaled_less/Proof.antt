@@ -1,21 +1,21 @@
--- `scratch::kernel::scaled_difference` meets its contract: a turn reads the next elements of two vectors, which are apart from
--- what is written, and writes a multiple of their difference. Assumes nothing.
+-- `scratch_products::kernel::scaled_less` meets its contract: a turn reads the next elements of two vectors, which are apart from
+-- what is written, and writes a multiple of the first less the second. Assumes nothing.
 use mathlib.Core.Path.{ap₂}
 use Prim.Native.Nat.{_-_}
 use native.Mathlib.Omega.{arith}
 use lib.ListN.{getD}
 use lib.Ieee.{binary64, nan, sub, mul}
 use Rattle.arithmetic.specs.Arithmetic.{ieee}
-use Rattle.arithmetic.proofs.Product.{scaled-difference-walk}
+use Rattle.arithmetic.proofs.Product.{scaled-less-walk}
 use Rattle.scratch.specs.Parts.{part}
 use Rattle.scratch.proofs.Writing.{Written, written-none, written-next, written-all, read-apart}
-use Rattle.scratch.proofs.kernel.scaled_difference.Statement.{statement}
-use Rattle.scratch.proofs.kernel.scaled_difference.Tie as tie
+use Rattle.scratch_products.proofs.kernel.scaled_less.Statement.{statement}
+use Rattle.scratch_products.proofs.kernel.scaled_less.Tie as tie
 
 abbrev Inv-loop : tie.InvT-loop
 Inv-loop work₀ n scale x y target i₀ work i =
     Written target
-    (λ k. mul binary64 scale (sub binary64 (getD (part x n work₀) k nan) (getD (part y n work₀) k nan)))
+    (λ k. sub binary64 (mul binary64 scale (getD (part x n work₀) k nan)) (getD (part y n work₀) k nan))
     n work₀ i work
 
 abbrev μ-loop : tie.MeasureT-loop
@@ -66,7 +66,7 @@ loop-again c =
     let x-read = read-apart written (start .args .x) (apart .0) (omega arith) nan in
     let y-read = read-apart written (start .args .y) (apart .1) (omega arith) nan in
     written-next written (omega arith) _ _ (omega arith)
-    (ap₂ (λ a b. mul binary64 (start .args .scale) (sub binary64 a b)) x-read y-read)
+    (ap₂ (λ a b. sub binary64 (mul binary64 (start .args .scale) a) b) x-read y-read)
 
 same-length : tie.Need-same-length Inv-loop μ-loop
 same-length c = c .before .loop .inv .length-kept
@@ -77,10 +77,10 @@ returns c =
     let n = args .n in
     let work = args .work .now in
     written-all (c .before .loop .inv) (c .loop-test .left)
-    (scaled-difference-walk (ieee binary64) n (args .scale) (part (args .x) n work) (part (args .y) n work))
+    (scaled-less-walk (ieee binary64) n (args .scale) (part (args .x) n work) (part (args .y) n work))
 
-pub scaled-difference-spec : {M : Type 1} → statement M
-scaled-difference-spec =
+pub scaled-less-spec : {M : Type 1} → statement M
+scaled-less-spec =
     tie.close
     (tie.spec
     Inv-loop

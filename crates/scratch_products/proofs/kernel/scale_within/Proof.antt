@@ -1,14 +1,14 @@
--- `scratch::kernel::scale_within` meets its contract: a turn reads the source's next element, which is apart from what is
+-- `scratch_products::kernel::scale_within` meets its contract: a turn reads the source's next element, which is apart from what is
 -- written, and writes its multiple. Assumes nothing.
 use mathlib.Core.Path.{refl, ap}
 use Prim.Native.Nat.{_-_}
 use native.Mathlib.Omega.{arith}
 use lib.ListN.{getD}
 use lib.Ieee.{binary64, nan, mul}
 use Rattle.scratch.specs.Parts.{part}
 use Rattle.scratch.proofs.Writing.{Written, written-none, written-next, written-all, read-apart}
-use Rattle.scratch.proofs.kernel.scale_within.Statement.{statement}
-use Rattle.scratch.proofs.kernel.scale_within.Tie as tie
+use Rattle.scratch_products.proofs.kernel.scale_within.Statement.{statement}
+use Rattle.scratch_products.proofs.kernel.scale_within.Tie as tie
 
 abbrev Inv-loop : tie.InvT-loop
 Inv-loop work₀ n scale source target i₀ work i =

@@ -1,4 +1,4 @@
--- `scratch::kernel::add_scaled_to` meets its contract: a turn reads out's element, which is not yet written, and the
+-- `scratch_sums::kernel::add_scaled_to` meets its contract: a turn reads out's element, which is not yet written, and the
 -- vector's. One walk writes the signal sum; out is written whole. Assumes nothing.
 use Prim.Native.Nat.{_-_}
 use native.Mathlib.Omega.{arith}
@@ -6,11 +6,11 @@ use lib.ListN.{length}
 use lib.Ieee.{binary64, nan}
 use Rattle.arithmetic.specs.Arithmetic.{ieee}
 use Rattle.arithmetic.proofs.Product.{plusScaledAt, plus-scaled-walk}
 use Rattle.scratch.specs.Parts.{part}
 use Rattle.scratch.proofs.Parts.{getD-part}
 use Rattle.scratch.proofs.Writing.{Written, written-none, written-next, written-whole, read-ahead}
-use Rattle.scratch.proofs.kernel.add_scaled_to.Statement.{statement}
-use Rattle.scratch.proofs.kernel.add_scaled_to.Tie as tie
+use Rattle.scratch_sums.proofs.kernel.add_scaled_to.Statement.{statement}
+use Rattle.scratch_sums.proofs.kernel.add_scaled_to.Tie as tie
 
 abbrev Inv-loop : tie.InvT-loop
 Inv-loop work at scale out₀ i₀ i-end out i =
