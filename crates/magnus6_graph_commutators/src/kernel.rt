@@ -14,8 +14,8 @@ use graph_scratch::kernel::product_in;
 use magnus6_graph_parts::kernel::SQRT15_OVER_3;
 use magnus6_graph_parts::kernel::TEN_OVER_3;
 use magnus6_graph_parts::kernel::form_b;
-use scratch::kernel::scaled_difference;
-use scratch::kernel::scaled_less;
+use scratch_products::kernel::scaled_difference;
+use scratch_products::kernel::scaled_less;
 
 // A constant of magnus6_graph.rs; its value is that of constants6 in the crate magnus.
 const ONE_OVER_60: f64 = 1.0 / 60.0;

@@ -19,13 +19,13 @@ use magnus_graph_helpers::kernel::reciprocal_factorial;
 use magnus6_graph_operators::kernel::form_at_v;
 use magnus6_graph_operators::kernel::form_lop;
 use magnus6_graph_operators::kernel::form_rop;
-use scratch::kernel::add;
-use scratch::kernel::add_scaled;
 use scratch::kernel::clear;
 use scratch::kernel::copy_within;
 use scratch::kernel::load;
-use scratch::kernel::scaled_difference;
 use scratch::kernel::store;
+use scratch_products::kernel::scaled_difference;
+use scratch_sums::kernel::add;
+use scratch_sums::kernel::add_scaled;
 
 // A constant of magnus6_graph_helpers.rs; its value is that of constants6 in the crate magnus.
 const ONE_OVER_240: f64 = 1.0 / 240.0;

@@ -13,10 +13,10 @@ ghost use Rattle.magnus.specs.Omega6.{constants6};
 ghost use Rattle.magnus6_graph_parts.specs.Omega6Parts.{LopFormed, RopFormed, AtVFormed};
 use magnus6_graph_commutators::kernel::form_c1;
 use magnus6_graph_commutators::kernel::form_c2;
-use scratch::kernel::add;
-use scratch::kernel::add_scaled;
 use scratch::kernel::copy_within;
-use scratch::kernel::scaled_less;
+use scratch_products::kernel::scaled_less;
+use scratch_sums::kernel::add;
+use scratch_sums::kernel::add_scaled;
 
 // Constants of magnus6_graph.rs and magnus6_graph_helpers.rs; their values are those of constants6 in the crate magnus.
 const ONE_OVER_12: f64 = 1.0 / 12.0;

@@ -21,11 +21,11 @@ ghost use Rattle.magnus_graph_step.specs.Omega4.{expOmega4};
 use graph_scratch::kernel::product_in;
 use magnus_graph_helpers::kernel::omega_sum;
 use magnus_graph_helpers::kernel::reciprocal_factorial;
-use scratch::kernel::add_scaled;
 use scratch::kernel::clear;
 use scratch::kernel::copy_within;
 use scratch::kernel::load;
 use scratch::kernel::store;
+use scratch_sums::kernel::add_scaled;
 
 // The product of the first sample with the vector at `source1`, to `target1`, and then that of the second sample with the
 // vector at `source2`, to `target2`.

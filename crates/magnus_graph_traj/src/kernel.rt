@@ -33,8 +33,8 @@ use graph_traj_segment::kernel::law_value;
 use magnus_graph::SQRT3_OVER_12_F64;
 use magnus_graph_helpers::kernel::omega_sum;
 use magnus_graph_helpers::kernel::reciprocal_factorial;
-use scratch::kernel::add_scaled;
 use scratch::kernel::copy_within;
+use scratch_sums::kernel::add_scaled;
 
 // ---- a sample of law 2
 

@@ -12,7 +12,7 @@ ghost use Rattle.graph_checks.specs.Pattern.{ValuedPattern};
 ghost use Rattle.graph_rows.specs.RowProduct.{rowProduct64};
 ghost use Rattle.varcoef_magnus_graph_products.specs.WeightedProduct.{withProduct};
 use graph_rows::kernel::row_sum;
-use scratch::kernel::multiply;
+use scratch_products::kernel::multiply;
 use square_root::kernel::sqrt_into_slice;
 
 // The vector at `at` becomes the square roots of the weights.

@@ -26,11 +26,11 @@ ghost use Rattle.varcoef_magnus_graph_products.specs.WeightedProduct.{withProdu
 ghost use Rattle.varcoef_magnus_graph_step.specs.WeightedOmega4.{weightedOmega4};
 use magnus_graph_helpers::kernel::omega_sum;
 use magnus_graph_helpers::kernel::reciprocal_factorial;
-use scratch::kernel::add_scaled;
 use scratch::kernel::clear;
 use scratch::kernel::copy_within;
 use scratch::kernel::load;
 use scratch::kernel::store;
+use scratch_sums::kernel::add_scaled;
 use varcoef_magnus_graph_products::kernel::load_roots;
 use varcoef_magnus_graph_products::kernel::weighted_product_in;
 
