@@ -1,4 +1,3 @@
 pub mod Order
 pub mod Lookup
-pub mod LookupSound
 pub mod LookupAnswer

@@ -10,7 +10,8 @@ use native.Mathlib.Numerals.{add-one}
 use native.Mathlib.Omega.{arith}
 use lib.Ieee.{Float, lt, le}
 use Rattle.graph_traj.specs.Greatest.{IsGreatest, greatest-is, greatest-only}
-use Rattle.graph_traj.specs.Lookup.{breakpoint, segmentAt, Breakpoints, Inside, Holds}
+use Rattle.graph_traj_breakpoints.specs.Breakpoints.{breakpoint, Breakpoints, Inside}
+use Rattle.graph_traj.specs.Lookup.{segmentAt, Holds}
 use Rattle.graph_traj.proofs.Order.{less-then-at-most, less-not-at-most, less-at-most, not-at-most}
 
 fails : (b : Bool) → (b ≡ true → ⊥) → b ≡ false

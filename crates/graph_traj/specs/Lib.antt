@@ -1,4 +1,3 @@
 pub mod Greatest
 pub mod Lookup
-pub mod LookupChecks
 pub mod LookupAnswer

@@ -1,11 +1,10 @@
 // Trajectories (graph_traj.rs): segments between breakpoints, in each of which the values follow a law. Here is the lookup of a time.
 ghost use Rattle.graph_traj.specs.Lookup.{segmentAt};
 ghost use Rattle.graph_traj.specs.LookupAnswer.{LookupAnswers};
-ghost use Rattle.graph_traj.specs.LookupChecks.{lookupFault};
+ghost use Rattle.graph_traj_breakpoints.specs.LookupChecks.{lookupFault};
 use error::Checked;
 use error::Refusal;
 
-pub mod check;
 pub mod kernel;
 
 // What `segment_index` answers: the segment, or why there is none.
@@ -20,7 +19,7 @@ pub fn segment_index(segments: usize, breakpoints: &[f64], t: f64) -> Located
     ensures { λ r. ⌜ LookupAnswers r (lookupFault segments (now (breakpoints .entry)) t)
         (segmentAt segments (now (breakpoints .entry)) t) ⌝ }
 {
-    let checked = check::check_lookup(segments, breakpoints, t);
+    let checked = graph_traj_breakpoints::check_lookup(segments, breakpoints, t);
     let Checked::Refused(refusal) = checked else {
         return Located::Segment(kernel::segment_index_binary(segments, breakpoints, t));
     };

@@ -15,12 +15,14 @@ use Rattle.graph_checks.specs.Pattern.{Pattern}
 use Rattle.graph_checks.specs.PatternChecks.{patternFault}
 use Rattle.graph_checks.proofs.First.{refuseFirst-accepted}
 use Rattle.graph_checks.proofs.Sound.{pattern-accepted, values-accepted}
-use Rattle.graph_traj.specs.Lookup.{breakpoint, Breakpoints}
+use Rattle.graph_traj_breakpoints.specs.Breakpoints.{breakpoint, Breakpoints}
 use Rattle.graph_traj_parts.specs.Trajectory.{Trajectory, Counts, Lists, AcceptedTrajectory, FromZero, AcceptedAdjointTrajectory}
-use Rattle.graph_traj.specs.LookupChecks.{breakpointsFault}
-use Rattle.graph_traj_parts.specs.TrajectoryChecks.{firstBreakpointFault, oneSegmentFault, lawsFault, countsFault}
-use Rattle.graph_traj_parts.specs.TrajectoryChecks.{trajectoryCountsFault, listsFault, trajectoryFault, adjointTrajectoryFault}
-use Rattle.graph_traj.proofs.LookupSound.{segment-count-accepted, pool-count-accepted, breakpoints-accepted}
+use Rattle.graph_traj_breakpoints.specs.LookupChecks.{breakpointsFault}
+use Rattle.graph_traj_parts.specs.TrajectoryChecks.{firstBreakpointFault, oneSegmentFault}
+use Rattle.graph_traj_lists.specs.ListChecks.{lawsFault, countsFault}
+use Rattle.graph_traj_parts.specs.TrajectoryChecks.{trajectoryCountsFault, trajectoryFault, adjointTrajectoryFault}
+use Rattle.graph_traj_lists.specs.ListChecks.{listsFault}
+use Rattle.graph_traj_breakpoints.proofs.LookupSound.{segment-count-accepted, pool-count-accepted, breakpoints-accepted}
 
 -- ---- the rows of the table
 

@@ -8,7 +8,7 @@ use lib.ListN.{length, getD}
 use lib.Ieee.{Float, nan, eq, binary64, ofBits}
 use lib.Ieee.Scale.{finite}
 use Rattle.graph_checks.specs.Pattern.{Pattern}
-use Rattle.graph_traj.specs.Lookup.{breakpoint, Breakpoints}
+use Rattle.graph_traj_breakpoints.specs.Breakpoints.{breakpoint, Breakpoints}
 
 -- One pattern for all segments, the breakpoints between them, and for each segment a start list and an end list, one value for each
 -- column, and a law. The start lists stand one after the other in one pool, and so do the end lists.

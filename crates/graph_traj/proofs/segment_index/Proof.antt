@@ -1,7 +1,7 @@
 -- `segment_index` meets its contract: where its checks accept, the breakpoints and the time are what the search asks. Assumes nothing.
 use mathlib.Core.Path.{sym, _∙_}
 use borrow.Author.Needs.{needs}
-use Rattle.graph_traj.proofs.LookupSound.{lookup-accepted}
+use Rattle.graph_traj_breakpoints.proofs.LookupSound.{lookup-accepted}
 use Rattle.graph_traj.proofs.LookupAnswer.{segment-given, segment-refused}
 use Rattle.graph_traj.proofs.segment_index.Statement.{statement}
 use Rattle.graph_traj.proofs.segment_index.Tie as tie

@@ -6,7 +6,7 @@ use Rattle.error.proofs.Checks.{refused-here, accepted-then}
 use Rattle.error.proofs.Left.{fault-is, fault-accepted}
 use Rattle.graph_checks.proofs.Sound.{pattern-accepted}
 use Rattle.graph_traj_parts.specs.TrajectoryChecks.{trajectoryFault}
-use Rattle.graph_traj.proofs.LookupSound.{segment-count-accepted}
+use Rattle.graph_traj_breakpoints.proofs.LookupSound.{segment-count-accepted}
 use Rattle.graph_traj_parts.proofs.check_trajectory.Statement.{statement}
 use Rattle.graph_traj_parts.proofs.check_trajectory.Tie as tie
 
