@@ -8,7 +8,7 @@ use Prim.Native.Nat.{ℕ, _≤_, _<_}
 use lib.Ieee.{Float}
 use Rattle.error.specs.declared.Checked.the-variants.{Accepted}
 use Rattle.error.proofs.Checks.{length-accepted}
-use Rattle.graph_traj.proofs.LookupSound.{count-accepted}
+use Rattle.graph_traj_breakpoints.proofs.LookupSound.{count-accepted}
 use Rattle.graph_traj_parts.specs.Trajectory.{Trajectory}
 use Rattle.graph_traj_parts.proofs.TrajectorySound.{first-breakpoint-accepted, trajectory-accepted}
 use Rattle.magnus_graph_checks.specs.AcceptedStep.{WithinRadius}

@@ -9,7 +9,7 @@ use Rattle.error.specs.declared.Refusal.{Refusal}
 use Rattle.error.specs.declared.Checked.{Checked}
 use Rattle.error.specs.declared.Checked.the-variants.{Accepted, Refused}
 use Rattle.graph_traj_segment.specs.declared.kernel.Segment.{Segment}
-use Rattle.graph_traj.specs.Lookup.{breakpoint}
+use Rattle.graph_traj_breakpoints.specs.Breakpoints.{breakpoint}
 use Rattle.graph_traj_segment.specs.SegmentValue.{segmentOf}
 use Rattle.magnus_graph_checks.specs.StepChecks.{radiusFault}
 use Rattle.graph_traj_checks.specs.Each.{each}

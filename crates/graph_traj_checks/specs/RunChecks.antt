@@ -10,7 +10,7 @@ use Rattle.error.specs.Checks.{refuseIf, next}
 use Rattle.error.specs.Lengths.{lengthFault}
 use Rattle.error.specs.declared.Refusal.the-variants.{StepCount}
 use Rattle.error.specs.declared.Checked.{Checked}
-use Rattle.graph_traj.specs.Lookup.{breakpoint}
+use Rattle.graph_traj_breakpoints.specs.Breakpoints.{breakpoint}
 use Rattle.graph_traj_segment.specs.Times.{segmentTau}
 use Rattle.graph_traj_parts.specs.Trajectory.{Trajectory}
 use Rattle.graph_traj_parts.specs.TrajectoryChecks.{firstBreakpointFault, trajectoryFault}

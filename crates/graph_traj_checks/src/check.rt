@@ -1,7 +1,7 @@
 // The checks of the forward run. Every function answers what its definition in specs/RunChecks.antt says, for all inputs.
 ghost use mathlib.Core.Path.{_≡_};
 ghost use Prim.Native.Nat.{_≤_};
-ghost use Rattle.graph_traj.specs.Lookup.{Breakpoints};
+ghost use Rattle.graph_traj_breakpoints.specs.Breakpoints.{Breakpoints};
 ghost use Rattle.graph_traj_parts.specs.Trajectory.{trajectory};
 ghost use Rattle.graph_traj_checks.specs.RunChecks.{stepCountFault, segmentsRadiusFault, signalsFault, runLengthsFault, runFault};
 use error::Checked;

@@ -15,7 +15,7 @@ use Rattle.error.specs.declared.Checked.the-variants.{Accepted, Refused}
 use Rattle.error.proofs.Checks.{next-refused, next-assoc, accepted-then}
 use Rattle.magnus.specs.Run.{runAlong}
 use Rattle.graph_traj_segment.specs.declared.kernel.Segment.{Segment}
-use Rattle.graph_traj.specs.Lookup.{breakpoint}
+use Rattle.graph_traj_breakpoints.specs.Breakpoints.{breakpoint}
 use Rattle.graph_traj_parts.specs.Trajectory.{Trajectory}
 use Rattle.magnus_graph_checks.proofs.StepSound.{refused-not-accepted}
 use Rattle.magnus_graph_traj.specs.RunSteps.{RunStep, Course, segmentSteps, allSteps, sampleAt, runStepFault, runStepImage, firstFault}

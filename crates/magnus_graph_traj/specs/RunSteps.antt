@@ -24,7 +24,7 @@ use Rattle.magnus.specs.Formed.{FormedOperator, formedProduct, formedStep4}
 use Rattle.magnus_graph.specs.Omega4.{sqrt3Over12}
 use Rattle.magnus_graph_step.specs.Omega4.{expOmega4}
 use Rattle.graph_traj_segment.specs.Laws.{fraction, valuesAt}
-use Rattle.graph_traj.specs.Lookup.{breakpoint}
+use Rattle.graph_traj_breakpoints.specs.Breakpoints.{breakpoint}
 use Rattle.graph_traj_segment.specs.Times.{c1, c2, stepStart, adjointStepStart, sampleTime}
 use Rattle.graph_traj_parts.specs.Trajectory.{Trajectory}
 use Rattle.graph_traj_checks.specs.RunChecks.{tauOf}

@@ -28,7 +28,7 @@ use error::Checked;
 use error::Refusal;
 use graph_scratch::kernel::product_in;
 use graph_scratch::kernel::product_valued_in;
-use graph_traj_parts::first_not_finite;
+use graph_traj_lists::first_not_finite;
 use graph_traj_segment::kernel::law_value;
 use magnus_graph::SQRT3_OVER_12_F64;
 use magnus_graph_helpers::kernel::omega_sum;

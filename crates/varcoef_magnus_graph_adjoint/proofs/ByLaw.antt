@@ -18,7 +18,7 @@ use Rattle.graph_checks.proofs.First.{accepts-none}
 use Rattle.magnus_graph.specs.StepOutcome.{adjoint}
 use Rattle.varcoef_magnus_graph_checks.specs.WeightedStepChecks.{weightFault}
 use Rattle.graph_traj_segment.specs.Laws.{lawValues, byLaw, valuesAt}
-use Rattle.graph_traj.specs.Lookup.{breakpoint}
+use Rattle.graph_traj_breakpoints.specs.Breakpoints.{breakpoint}
 use Rattle.graph_traj_segment.specs.Times.{c1, c2}
 use Rattle.graph_traj_parts.specs.Trajectory.{Trajectory, AcceptedAdjointTrajectory}
 use Rattle.magnus_graph_traj.specs.RunSteps.{RunStep, adjointCourse, segmentSteps, sampleAt, fractionAt, runStepFault, sampledFault}

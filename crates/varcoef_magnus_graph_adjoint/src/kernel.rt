@@ -29,7 +29,7 @@ ghost use Rattle.magnus_graph_traj.specs.RunSteps.{sampledFault};
 use error::Checked;
 use error::Refusal;
 use graph_rows::kernel::row_sum;
-use graph_traj_parts::first_not_finite;
+use graph_traj_lists::first_not_finite;
 use graph_traj_segment::kernel::law_value;
 use magnus_graph_helpers::kernel::omega_sum;
 use magnus_graph_helpers::kernel::reciprocal_factorial;
