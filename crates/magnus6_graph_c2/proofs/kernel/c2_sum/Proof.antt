@@ -1,4 +1,4 @@
--- `magnus6_graph_commutators::kernel::c2_sum` meets its contract: a turn reads the next elements of seven vectors, which are apart from
+-- `magnus6_graph_c2::kernel::c2_sum` meets its contract: a turn reads the next elements of seven vectors, which are apart from
 -- what is written. The code's quotients 10 / 3 and 1 / 60 are the formula's. Assumes nothing.
 use Prim.Native.Nat.{_-_, _*_}
 use native.Mathlib.Omega.{arith}
@@ -8,8 +8,8 @@ use Rattle.scratch.specs.Parts.{part}
 use Rattle.scratch.proofs.Writing.{fewer-turns, Written, written-none, written-next, written-all, read-apart}
 use Rattle.magnus.specs.Omega6.{constants6}
 use Rattle.magnus6_graph_parts.proofs.Omega6Walks.{c2Of, c2SumAt, c2-sum-walk}
-use Rattle.magnus6_graph_commutators.proofs.kernel.c2_sum.Statement.{statement}
-use Rattle.magnus6_graph_commutators.proofs.kernel.c2_sum.Tie as tie
+use Rattle.magnus6_graph_c2.proofs.kernel.c2_sum.Statement.{statement}
+use Rattle.magnus6_graph_c2.proofs.kernel.c2_sum.Tie as tie
 
 abbrev Inv-loop : tie.InvT-loop
 Inv-loop work₀ n tau l1-y l3-y l2-w l2-y l2-b2-y l1-l2-y l3-l2-y target two-b3-scale b2-b1-scale i₀ work i =

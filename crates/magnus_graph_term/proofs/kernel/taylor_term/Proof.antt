@@ -1,4 +1,4 @@
--- `magnus_graph_step::kernel::taylor_term` meets its contract: the four products are placed as the formula asks, d over v, which
+-- `magnus_graph_term::kernel::taylor_term` meets its contract: the four products are placed as the formula asks, d over v, which
 -- is no longer needed; then Ωv is formed of them over d, and the coefficient times Ωv is added to the sum. The factors are
 -- those of the formula; the code's -0.5 is its minusHalf. Assumes nothing.
 use mathlib.Core.Path.{refl}
@@ -11,8 +11,8 @@ use Rattle.arithmetic.proofs.Tabulate.{length-tabulate}
 use Rattle.graph_rows.specs.RowProduct.{rowProduct64}
 use Rattle.magnus_graph_helpers.proofs.Terms.{product-placed, room-left, term4-added}
 use borrow.Author.Needs.{needs}
-use Rattle.magnus_graph_step.proofs.kernel.taylor_term.Statement.{statement}
-use Rattle.magnus_graph_step.proofs.kernel.taylor_term.Tie as tie
+use Rattle.magnus_graph_term.proofs.kernel.taylor_term.Statement.{statement}
+use Rattle.magnus_graph_term.proofs.kernel.taylor_term.Tie as tie
 
 mul-a : tie.Need-mul-a
 mul-a c = search needs

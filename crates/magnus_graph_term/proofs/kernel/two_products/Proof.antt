@@ -1,4 +1,4 @@
--- `magnus_graph_step::kernel::two_products` meets its contract: the second product is written to what the first left. Assumes
+-- `magnus_graph_term::kernel::two_products` meets its contract: the second product is written to what the first left. Assumes
 -- nothing.
 use mathlib.Core.Path.{_∙_, ap}
 use mathlib.Core.List.{List}
@@ -7,8 +7,8 @@ use lib.Ieee.{Float}
 use Rattle.scratch.specs.Parts.{part, put}
 use Rattle.graph_rows.specs.RowProduct.{rowProduct64}
 use borrow.Author.Needs.{needs}
-use Rattle.magnus_graph_step.proofs.kernel.two_products.Statement.{statement}
-use Rattle.magnus_graph_step.proofs.kernel.two_products.Tie as tie
+use Rattle.magnus_graph_term.proofs.kernel.two_products.Statement.{statement}
+use Rattle.magnus_graph_term.proofs.kernel.two_products.Tie as tie
 
 product-in-requires : tie.Need-product-in-requires
 product-in-requires c κs =

@@ -1,4 +1,4 @@
--- `magnus6_graph_commutators::kernel::form_c2` meets its contract: 2 B3 x + C1 x and the products that C2 x needs are written one after the
+-- `magnus6_graph_c2::kernel::form_c2` meets its contract: 2 B3 x + C1 x and the products that C2 x needs are written one after the
 -- other, behind what C1 x left. Assumes nothing.
 use native.Mathlib.Omega.{arith}
 use lib.Ieee.{binary64}
@@ -8,8 +8,8 @@ use Rattle.scratch.specs.Parts.{part}
 use Rattle.graph_rows.specs.RowProduct.{rowProduct64}
 use Rattle.magnus.specs.Omega6.{constants6}
 use Rattle.magnus6_graph_parts.proofs.Omega6Parts.{c2-formed}
-use Rattle.magnus6_graph_commutators.proofs.kernel.form_c2.Statement.{statement}
-use Rattle.magnus6_graph_commutators.proofs.kernel.form_c2.Tie as tie
+use Rattle.magnus6_graph_c2.proofs.kernel.form_c2.Statement.{statement}
+use Rattle.magnus6_graph_c2.proofs.kernel.form_c2.Tie as tie
 
 form-c1-requires : tie.Need-form-c1-requires
 form-c1-requires c κs =

@@ -1,4 +1,4 @@
--- `magnus6_graph_commutators::kernel::w_sum` meets its contract: a turn reads the next elements of two vectors, which are apart from what
+-- `magnus6_graph_c2::kernel::w_sum` meets its contract: a turn reads the next elements of two vectors, which are apart from what
 -- is written. Assumes nothing.
 use mathlib.Core.Path.{ap₂}
 use Prim.Native.Nat.{_-_, _*_}
@@ -8,8 +8,8 @@ use Rattle.arithmetic.specs.Arithmetic.{ieee}
 use Rattle.scratch.specs.Parts.{part}
 use Rattle.scratch.proofs.Writing.{fewer-turns, Written, written-none, written-next, written-all, read-apart}
 use Rattle.magnus6_graph_parts.proofs.Omega6Walks.{twiceFirstPlusOf, twiceFirstPlusAt, twice-first-plus-walk}
-use Rattle.magnus6_graph_commutators.proofs.kernel.w_sum.Statement.{statement}
-use Rattle.magnus6_graph_commutators.proofs.kernel.w_sum.Tie as tie
+use Rattle.magnus6_graph_c2.proofs.kernel.w_sum.Statement.{statement}
+use Rattle.magnus6_graph_c2.proofs.kernel.w_sum.Tie as tie
 
 abbrev Inv-loop : tie.InvT-loop
 Inv-loop work₀ n b3 c1 target i₀ work i =

@@ -1,4 +1,4 @@
--- `magnus6_graph_commutators::kernel::form_c1` meets its contract: the products of B2 x and of y = B1 x take the places of those of x, which are
+-- `magnus6_graph_c1::kernel::form_c1` meets its contract: the products of B2 x and of y = B1 x take the places of those of x, which are
 -- no longer needed. The code's literal for √15/3 is the formula's. Assumes nothing.
 use native.Mathlib.Omega.{arith}
 use lib.Ieee.{binary64, ofBits}
@@ -8,8 +8,8 @@ use Rattle.scratch.specs.Parts.{part}
 use Rattle.graph_rows.specs.RowProduct.{rowProduct64}
 use Rattle.magnus.specs.Omega6.{constants6}
 use Rattle.magnus6_graph_parts.proofs.Omega6Parts.{c1-formed}
-use Rattle.magnus6_graph_commutators.proofs.kernel.form_c1.Statement.{statement}
-use Rattle.magnus6_graph_commutators.proofs.kernel.form_c1.Tie as tie
+use Rattle.magnus6_graph_c1.proofs.kernel.form_c1.Statement.{statement}
+use Rattle.magnus6_graph_c1.proofs.kernel.form_c1.Tie as tie
 
 form-b-requires : tie.Need-form-b-requires
 form-b-requires c κs =

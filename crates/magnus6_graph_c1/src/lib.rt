@@ -1,0 +1,2 @@
+// The commutator C1 of order 6 at a vector (magnus6_graph_helpers.rs).
+pub mod kernel;

@@ -1,2 +1,0 @@
-// The commutators C1 and C2 of order 6 at a vector (magnus6_graph_helpers.rs).
-pub mod kernel;
