@@ -6,23 +6,30 @@ use Rattle.arithmetic.specs.Vector.{tabulate}
 use Rattle.arithmetic.specs.Product.{sumTo, entries, rowSum}
 use Rattle.error.specs.Checks.{refuseIf, refuseUnequal, next, ifAccepted}
 use Rattle.error.specs.Lengths.{lengthFault}
-use Rattle.graph.specs.First.{first, refuseFirst}
-use Rattle.graph.specs.PatternChecks.{sizeFault, rowStartCountFault, rowStartsFault, entryCountFault, columnFault, valueFault}
-use Rattle.graph.specs.PatternChecks.{shapeFault, patternFault, csrFault}
+use Rattle.graph_checks.specs.First.{first, refuseFirst}
+use Rattle.graph_checks.specs.PatternChecks.{sizeFault, rowStartCountFault, rowStartsFault, entryCountFault, columnFault, valueFault}
+use Rattle.graph_checks.specs.PatternChecks.{shapeFault, patternFault, csrFault}
 use Rattle.graph.specs.ProductOutcome.{productFault}
 use Rattle.graph_traj.specs.Greatest.{greatest}
 use Rattle.graph_traj.specs.Lookup.{segmentAt}
-use Rattle.graph_traj.specs.TrajectoryChecks.{segmentCountFault, oneSegmentFault, poolCountFault, notRisingAt, breakpointsFault}
-use Rattle.graph_traj.specs.TrajectoryChecks.{firstBreakpointFault, lookupTimeFault, lawsFault, lookupFault, countsFault, listsFault}
-use Rattle.graph_traj.specs.TrajectoryChecks.{adjointTrajectoryFault}
-use Rattle.graph_traj_checks.specs.RunChecks.{signalsFault, adjointRunFault}
+use Rattle.graph_traj_breakpoints.specs.LookupChecks.{segmentCountFault, poolCountFault, notRisingAt, breakpointsFault}
+use Rattle.graph_traj_parts.specs.TrajectoryChecks.{oneSegmentFault}
+use Rattle.graph_traj_parts.specs.TrajectoryChecks.{firstBreakpointFault}
+use Rattle.graph_traj_breakpoints.specs.LookupChecks.{lookupTimeFault, lookupFault}
+use Rattle.graph_traj_lists.specs.ListChecks.{lawsFault, countsFault, listsFault}
+use Rattle.graph_traj_parts.specs.TrajectoryChecks.{adjointTrajectoryFault}
+use Rattle.graph_traj_checks.specs.RunChecks.{signalsFault}
+use Rattle.graph_traj_adjoint_checks.specs.AdjointRunChecks.{adjointRunFault}
 use Rattle.magnus.specs.Coefficients.{factorial, reciprocalFactorial}
 use Rattle.magnus.specs.Operators.{weighted, omega4, power, taylor}
 use Rattle.magnus.specs.Run.{runAlong}
-use Rattle.magnus_graph_helpers.specs.StepChecks.{notPositive, boundFault, noNodesFault, tauFault, radiusFault, weightedBound}
-use Rattle.magnus_graph_helpers.specs.StepChecks.{weightsLengthFault, roomFault, sampleWeightsFault, sampleFault, samplesFault}
-use Rattle.magnus_graph_helpers.specs.StepChecks.{weightedBoundsFault, stepLengthFault, lengthsFault, weightFault, stepFault}
-use Rattle.magnus_graph_helpers.specs.StepChecks.{weightedStepFault}
+use Rattle.magnus_graph_checks.specs.StepChecks.{notPositive, boundFault, tauFault, radiusFault}
+use Rattle.varcoef_magnus_graph_checks.specs.WeightedStepChecks.{noNodesFault, weightedBound}
+use Rattle.varcoef_magnus_graph_checks.specs.WeightedStepChecks.{weightsLengthFault, sampleWeightsFault}
+use Rattle.magnus_graph_checks.specs.StepChecks.{roomFault, sampleFault, samplesFault}
+use Rattle.varcoef_magnus_graph_checks.specs.WeightedStepChecks.{weightedBoundsFault, weightFault}
+use Rattle.magnus_graph_checks.specs.StepChecks.{stepLengthFault, lengthsFault, stepFault}
+use Rattle.varcoef_magnus_graph_checks.specs.WeightedStepChecks.{weightedStepFault}
 use Rattle.magnus_graph_traj.specs.RunSteps.{firstFault}
 use Rattle.scratch.specs.Parts.{put}
 use Rattle.square_root.specs.SquareRoot.{squareRoot}

@@ -9,11 +9,11 @@ use Rattle.error.specs.Refusals.{Carried, count, real, answerOf}
 use Rattle.error.specs.declared.Checked.{Checked}
 use Rattle.error.specs.declared.Checked.the-variants.{Accepted, Refused}
 use Rattle.graph.specs.ProductOutcome.{productOutcome}
-use Rattle.graph.specs.RowProduct.{rowProduct64}
+use Rattle.graph_rows.specs.RowProduct.{rowProduct64}
 use Rattle.graph_traj.specs.Lookup.{segmentAt}
-use Rattle.graph_traj.specs.Trajectory.{Trajectory, trajectory}
-use Rattle.graph_traj.specs.TrajectoryChecks.{lookupFault}
-use Rattle.magnus_graph_helpers.specs.StepChecks.{Sample, sample}
+use Rattle.graph_traj_parts.specs.Trajectory.{Trajectory, trajectory}
+use Rattle.graph_traj_breakpoints.specs.LookupChecks.{lookupFault}
+use Rattle.magnus_graph_checks.specs.StepChecks.{Sample, sample}
 use Rattle.magnus_graph.specs.StepOutcome.{StepInput, stepInput, forward, adjoint, stepAnswer, stepOutput, stepWork}
 use Rattle.magnus_graph_traj.specs.RunOutcome.{adjointRun, runAnswer, runOutput, runWork}
 use Rattle.scratch.specs.Parts.{zeros}
