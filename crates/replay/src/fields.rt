@@ -2,11 +2,11 @@
 // the end of the case a number is 0, and a slice that is longer than its array leads to a position where no case ends.
 ghost use Prim.Native.Nat.{_≤_, _<_};
 ghost use Rattle.replay.specs.Counts.{Counts};
-use crate::kernel::word16;
-use crate::kernel::word32;
-use crate::kernel::word64;
 use float::bits::from_bits;
 use float::bits::has_bits;
+use little_endian::kernel::word16;
+use little_endian::kernel::word32;
+use little_endian::kernel::word64;
 
 // A position beyond every case: with its head of 6 bytes a case has at most 65,536.
 const BEYOND: usize = 65536;

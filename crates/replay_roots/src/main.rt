@@ -1,9 +1,9 @@
 // Replays a stored list of square roots: each root is worked out again and compared in every bit. Any NaN matches any NaN.
 use float::bits::from_bits;
 use float::bits::has_bits;
+use little_endian::kernel::word64;
 use replay::Case;
 use replay::Tally;
-use replay::kernel::word64;
 use replay::next_case;
 use square_root::sqrt;
 

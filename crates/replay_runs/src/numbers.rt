@@ -1,9 +1,9 @@
 // The numbers of a run.
 use crate::weighted_runs::is_weighted;
 use float::bits::from_bits;
+use little_endian::kernel::byte;
 use replay::fields::further;
 use replay::fields::number64;
-use replay::kernel::byte;
 
 // Whether the runs of a kind go forward.
 pub fn is_forward(kind: u64) -> bool {

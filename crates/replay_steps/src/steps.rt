@@ -8,6 +8,7 @@ use crate::weighted_steps::read_weights;
 use crate::weighted_steps::weighted_step;
 use error::Checked;
 use float::bits::from_bits;
+use little_endian::kernel::byte;
 use magnus_graph::apply_exp_omega4_adj_kernel;
 use magnus_graph::apply_exp_omega4_kernel;
 use magnus6_graph::apply_exp_omega6_kernel;
@@ -19,7 +20,6 @@ use replay::fields::further;
 use replay::fields::number64;
 use replay::fields::read_parts;
 use replay::fields::read_reals;
-use replay::kernel::byte;
 
 // The most elements that a work slice of the list has.
 const MOST_WORK: usize = 24576;
