@@ -1,0 +1,2 @@
+pub mod JobOutcome
+pub mod Stepped
