@@ -1,0 +1,75 @@
+-- The text of a job, from that of its answer. Assumes nothing.
+use mathlib.Core.Path.{_≡_, refl, sym, _∙_, subst⁻¹}
+use mathlib.Core.Logic.{inl}
+use mathlib.Core.List.{List}
+use Prim.Native.Nat.{ℕ, _≤_}
+use lib.ListN.{length}
+use lib.Ieee.{Float}
+use Rattle.error.specs.Checks.{next}
+use Rattle.error.specs.Refusals.{Answers}
+use Rattle.error.specs.declared.Refusal.{Refusal}
+use Rattle.error.specs.declared.Checked.{Checked}
+use Rattle.error.specs.declared.Checked.the-variants.{Accepted, Refused}
+use Rattle.error.proofs.Checks.{next-refused, accepted-then}
+use Rattle.error.proofs.Left.{fault-is}
+use Rattle.job_text.specs.Text.{DoneText, RefusedText}
+use Rattle.job_text.specs.Placed.{Begins}
+use Rattle.job_format.specs.JobFormat.{jobOf, malformedFault}
+use Rattle.job_format.proofs.Malformed.{accepted-sizes}
+use Rattle.job_step.specs.JobOutcome.{jobStepAnswer, jobStepOutput, jobAnswer, jobOutput}
+use Rattle.job_step.specs.Stepped.{Small, Taken}
+use Rattle.job_run.specs.JobText.{AnswerText, JobText}
+
+-- the array begins with a text of which something else holds too
+begins-with : {P Q : List ℕ → Type 0} {before after : List ℕ} {n : ℕ}
+    → ((t : List ℕ) → P t → Q t)
+    → Begins P before after n
+    → Begins Q before after n
+begins-with f b = record { within = b .within; text = f _ (b .text); rest = b .rest }
+
+module _ {before after : List ℕ} {n : ℕ} where
+  -- an answer is written
+  pub done-written : {answer : Checked} {values : List Float}
+      → answer ≡ Accepted
+      → Begins (DoneText values) before after n
+      → Begins (AnswerText answer values) before after n
+  unfolding AnswerText
+  done-written {answer} {values} p = begins-with (λ t d. subst⁻¹ (λ (a : Checked). AnswerText a values t) p d)
+
+  pub refusal-written : {answer : Checked} (values : List Float) {r : Refusal}
+      → answer ≡ Refused r
+      → Begins (RefusedText r) before after n
+      → Begins (AnswerText answer values) before after n
+  unfolding AnswerText
+  refusal-written {answer} values p = begins-with (λ t d. subst⁻¹ (λ (a : Checked). AnswerText a values t) p d)
+
+  -- the step was taken, and its answer is written
+  pub step-written : {answer fault : Checked} {values left : List Float}
+      → Taken answer fault values left
+      → Begins (AnswerText answer values) before after n
+      → Begins (AnswerText fault left) before after n
+  step-written taken b = rw (← fault-is (taken .answers), ← taken .output-is) b
+
+  -- a malformed job, and another one
+  pub malformed-written : (job : List ℕ) {r : Refusal}
+      → malformedFault job ≡ Refused r
+      → Begins (RefusedText r) before after n
+      → Begins (JobText job) before after n
+  unfolding jobAnswer
+  malformed-written job {r} p b =
+      let answer = next-refused (malformedFault job) (jobStepAnswer (jobOf job)) r .1 (inl p) in
+      begins-with (λ t d. record { is = d }) (refusal-written {answer = jobAnswer job} (jobOutput job) answer b)
+
+  pub job-written : (job : List ℕ)
+      → malformedFault job ≡ Accepted
+      → Begins (AnswerText (jobStepAnswer (jobOf job)) (jobStepOutput (jobOf job))) before after n
+      → Begins (JobText job) before after n
+  unfolding jobAnswer jobOutput
+  job-written job p b =
+      let answer = accepted-then (jobStepAnswer (jobOf job)) (malformedFault job) (malformedFault job) (jobStepAnswer (jobOf job)) refl p refl in
+      begins-with
+      (λ t d. record { is = subst⁻¹ (λ (a : Checked). AnswerText a (jobStepOutput (jobOf job)) t) (sym answer) d }) b
+
+-- a job that is not malformed is small
+pub small : (job : List ℕ) → malformedFault job ≡ Accepted → Small job
+small job p = let sizes = accepted-sizes job p in record { nodes = sizes .0; entries = sizes .1 }
