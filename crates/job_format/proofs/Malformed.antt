@@ -2,14 +2,15 @@
 use mathlib.Core.Path.{_≡_, refl, sym, ap, _∙_}
 use mathlib.Core.Bool.{Bool, true, false, not, _||_, true≢false}
 use mathlib.Core.List.{List}
-use Prim.Native.Nat.{ℕ, _≤_, min}
+use Prim.Native.Nat.{ℕ, _≤_, _<_, min}
+use native.Mathlib.Omega.{arith}
 use lib.Dec.{eqb, ltb}
 use lib.ListN.{length}
-use borrow.Author.Tests.{ltb-false}
+use borrow.Author.Tests.{ltb-false, lt-ltb}
 use Rattle.error.specs.Refusals.{Answers}
 use Rattle.error.specs.declared.Refusal.the-variants.{Malformed}
 use Rattle.error.specs.declared.Checked.the-variants.{Accepted, Refused}
-use Rattle.error.proofs.Checks.{refuseIf-accepted, refuses, accepts}
+use Rattle.error.proofs.Checks.{refuseIf-accepted, refuseIf-refused, refuses, accepts}
 use Rattle.error.proofs.Left.{answers}
 use Rattle.job_format.specs.JobFormat.{allowed, fieldStart, jobMap, jobNodes, jobEntries, jobField, malformed, malformedFault}
 
@@ -55,3 +56,15 @@ accepted-sizes bytes h =
     fourth-and-fifth (ltb (length bytes) 2) (ltb 16384 (length bytes)) (not (allowed (jobMap bytes))) (ltb 64 (jobNodes bytes))
     (ltb 512 (jobEntries bytes)) (not (eqb (length bytes) (jobField bytes 9))) (refuseIf-accepted _ _ .0 h) in
     (ltb-false _ _ (small .0), ltb-false _ _ (small .1))
+
+-- a job of more than 16,384 bytes is refused with 16,385
+pub longer-refused : (bytes : List ℕ) → 16384 < length bytes → malformedFault bytes ≡ Refused (Malformed 16385)
+unfolding malformedFault malformed
+longer-refused bytes h =
+    let long : min (length bytes) 16385 ≡ 16385 = omega arith in
+    let fails : malformed bytes ≡ true = rw (lt-ltb 16384 (length bytes) h) (or-true (ltb (length bytes) 2)) in
+    refuseIf-refused _ _ _ .1 (fails, ap Malformed long)
+  where
+    or-true : (a : Bool) → (a || true) ≡ true
+    or-true true = refl
+    or-true false = refl

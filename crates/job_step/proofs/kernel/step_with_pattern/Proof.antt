@@ -1,9 +1,18 @@
 -- `step_with_pattern` meets its contract: it reads the samples and the signal. Assumes nothing.
+use Prim.Native.Nat.{_≤_}
 use native.Mathlib.Omega.{arith}
 use Rattle.job_step.proofs.Rooms.{front-length, front-exact}
 use borrow.Author.Needs.{needs}
 use Rattle.job_step.proofs.kernel.step_with_pattern.Statement.{statement}
 use Rattle.job_step.proofs.kernel.step_with_pattern.Tie as tie
+
+-- there is room for m entries
+entries-fit : (head : tie.After-head-of) → head .head-of .result .entries ≤ 512
+entries-fit head = omega (arith, head .before .before .before .before .before .pre .0 .entries, head .head-of .ensures .1 .1 .0)
+
+-- there is room for n nodes
+nodes-fit : (head : tie.After-head-of) → head .head-of .result .nodes ≤ 64
+nodes-fit head = omega (arith, head .before .before .before .before .before .pre .0 .nodes, head .head-of .ensures .1 .0 .0)
 
 head-of-requires : tie.Need-head-of-requires
 head-of-requires c κs = search needs
@@ -15,19 +24,13 @@ array-borrow-prefix-first : tie.Need-array-borrow-prefix-first
 array-borrow-prefix-first c = search needs
 
 slice-aggregate-vals1 : tie.Need-slice-aggregate-vals1
-slice-aggregate-vals1 c =
-    let room = c .before in
-    let head = room .before in
-    let start = head .before .before .before .before .before in
-    front-length (room .room512 .result) (room .room512 .ensures) (omega (arith, start .pre .0 .entries, head .head-of .ensures .1 .1 .0))
+slice-aggregate-vals1 c = let room = c .before in front-length (room .room512 .result) (room .room512 .ensures) (entries-fit (room .before))
 
 read-values-requires : tie.Need-read-values-requires
 read-values-requires c κs =
     let room = c .before .before in
     let head = room .before in
-    let start = head .before .before .before .before .before in
-    let entries = head .head-of .ensures .1 .1 .0 in
-    (omega arith, front-exact (room .room512 .result) (room .room512 .ensures) (omega (arith, start .pre .0 .entries, entries)) entries)
+    (omega arith, front-exact (room .room512 .result) (room .room512 .ensures) (entries-fit head) (head .head-of .ensures .1 .1 .0))
 
 room512-requires-2 : tie.Need-room512-requires-2
 room512-requires-2 c κs = search needs
@@ -38,17 +41,13 @@ array-borrow-prefix-second c = search needs
 slice-aggregate-vals2 : tie.Need-slice-aggregate-vals2
 slice-aggregate-vals2 c =
     let room = c .before in
-    let head = room .before .before .before .before .before .before .before in
-    let start = head .before .before .before .before .before in
-    front-length (room .room5122 .result) (room .room5122 .ensures) (omega (arith, start .pre .0 .entries, head .head-of .ensures .1 .1 .0))
+    front-length (room .room5122 .result) (room .room5122 .ensures) (entries-fit (room .before .before .before .before .before .before .before))
 
 read-values-requires-2 : tie.Need-read-values-requires-2
 read-values-requires-2 c κs =
     let room = c .before .before in
     let head = room .before .before .before .before .before .before .before in
-    let start = head .before .before .before .before .before in
-    let entries = head .head-of .ensures .1 .1 .0 in
-    (omega arith, front-exact (room .room5122 .result) (room .room5122 .ensures) (omega (arith, start .pre .0 .entries, entries)) entries)
+    (omega arith, front-exact (room .room5122 .result) (room .room5122 .ensures) (entries-fit head) (head .head-of .ensures .1 .1 .0))
 
 room64-requires : tie.Need-room64-requires
 room64-requires c κs = search needs
@@ -59,17 +58,13 @@ array-borrow-prefix-signal c = search needs
 slice-aggregate-src : tie.Need-slice-aggregate-src
 slice-aggregate-src c =
     let room = c .before in
-    let head = room .before .before .before .before .before .before .before .before .before .before .before .before .before in
-    let start = head .before .before .before .before .before in
-    front-length (room .room64 .result) (room .room64 .ensures) (omega (arith, start .pre .0 .nodes, head .head-of .ensures .1 .0 .0))
+    front-length (room .room64 .result) (room .room64 .ensures) (nodes-fit (room .before .before .before .before .before .before .before .before .before .before .before .before .before))
 
 read-signal-requires : tie.Need-read-signal-requires
 read-signal-requires c κs =
     let room = c .before .before in
     let head = room .before .before .before .before .before .before .before .before .before .before .before .before .before in
-    let start = head .before .before .before .before .before in
-    let nodes = head .head-of .ensures .1 .0 .0 in
-    front-exact (room .room64 .result) (room .room64 .ensures) (omega (arith, start .pre .0 .nodes, nodes)) nodes
+    front-exact (room .room64 .result) (room .room64 .ensures) (nodes-fit head) (head .head-of .ensures .1 .0 .0)
 
 selected-step-requires : tie.Need-selected-step-requires
 selected-step-requires c κs =

@@ -1,9 +1,14 @@
 -- `weighted_step` meets its contract: it reads the weights. Assumes nothing.
+use Prim.Native.Nat.{_≤_}
 use native.Mathlib.Omega.{arith}
 use Rattle.job_step.proofs.Rooms.{front-length, front-exact}
 use borrow.Author.Needs.{needs}
 use Rattle.job_step.proofs.kernel.weighted_step.Statement.{statement}
 use Rattle.job_step.proofs.kernel.weighted_step.Tie as tie
+
+-- there is room for n nodes
+nodes-fit : (head : tie.After-head-of) → head .head-of .result .nodes ≤ 64
+nodes-fit head = omega (arith, head .before .before .before .before .before .before .before .before .pre .0 .nodes, head .head-of .ensures .1 .0 .0)
 
 head-of-requires : tie.Need-head-of-requires
 head-of-requires c κs = search needs
@@ -15,19 +20,13 @@ array-borrow-prefix-weights1 : tie.Need-array-borrow-prefix-weights1
 array-borrow-prefix-weights1 c = search needs
 
 slice-aggregate-a1 : tie.Need-slice-aggregate-a1
-slice-aggregate-a1 c =
-    let room = c .before in
-    let head = room .before in
-    let start = head .before .before .before .before .before .before .before .before in
-    front-length (room .room64 .result) (room .room64 .ensures) (omega (arith, start .pre .0 .nodes, head .head-of .ensures .1 .0 .0))
+slice-aggregate-a1 c = let room = c .before in front-length (room .room64 .result) (room .room64 .ensures) (nodes-fit (room .before))
 
 read-weights1-requires : tie.Need-read-weights1-requires
 read-weights1-requires c κs =
     let room = c .before .before in
     let head = room .before in
-    let start = head .before .before .before .before .before .before .before .before in
-    let nodes = head .head-of .ensures .1 .0 .0 in
-    front-exact (room .room64 .result) (room .room64 .ensures) (omega (arith, start .pre .0 .nodes, nodes)) nodes
+    front-exact (room .room64 .result) (room .room64 .ensures) (nodes-fit head) (head .head-of .ensures .1 .0 .0)
 
 room64-requires-2 : tie.Need-room64-requires-2
 room64-requires-2 c κs = search needs
@@ -38,17 +37,13 @@ array-borrow-prefix-weights2 c = search needs
 slice-aggregate-a2 : tie.Need-slice-aggregate-a2
 slice-aggregate-a2 c =
     let room = c .before in
-    let head = room .before .before .before .before .before .before .before in
-    let start = head .before .before .before .before .before .before .before .before in
-    front-length (room .room642 .result) (room .room642 .ensures) (omega (arith, start .pre .0 .nodes, head .head-of .ensures .1 .0 .0))
+    front-length (room .room642 .result) (room .room642 .ensures) (nodes-fit (room .before .before .before .before .before .before .before))
 
 read-weights2-requires : tie.Need-read-weights2-requires
 read-weights2-requires c κs =
     let room = c .before .before in
     let head = room .before .before .before .before .before .before .before in
-    let start = head .before .before .before .before .before .before .before .before in
-    let nodes = head .head-of .ensures .1 .0 .0 in
-    front-exact (room .room642 .result) (room .room642 .ensures) (omega (arith, start .pre .0 .nodes, nodes)) nodes
+    front-exact (room .room642 .result) (room .room642 .ensures) (nodes-fit head) (head .head-of .ensures .1 .0 .0)
 
 weighted-step-with-requires : tie.Need-weighted-step-with-requires
 weighted-step-with-requires c κs =
