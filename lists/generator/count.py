@@ -3,11 +3,14 @@
 import sys
 from collections import Counter
 
-from list_format import KINDS, decode
+from list_format import JOB, KINDS, decode
 
 
 def answer_of(case):
-    """The number of the case's answer, or None for a kind that has none."""
+    """The number of the case's answer, or None for a kind that has none. A job's text is `done n` or `refused number ..`."""
+    if case.kind == JOB:
+        word, number = bytes(case.result["text"]).split()[:2]
+        return int(number) if word == b"refused" else 0
     return case.result["answer"].number if "answer" in case.result else None
 
 

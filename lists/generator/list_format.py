@@ -14,6 +14,8 @@ OMEGA4, OMEGA4_ADJOINT, WEIGHTED_OMEGA4, WEIGHTED_OMEGA4_ADJOINT, OMEGA6 = range
 SEGMENT_INDEX, EVOLVE, EVOLVE_ADJOINT, WEIGHTED_EVOLVE_ADJOINT = range(12, 16)
 RULED_SEGMENT_INDEX, RULED_EVOLVE, RULED_EVOLVE_ADJOINT, RULED_WEIGHTED_EVOLVE_ADJOINT = range(16, 20)
 
+JOB = 20
+
 # What an answer says: its number in document 01's table (0: accepted) and its values.
 Answer = namedtuple("Answer", "number values")
 Case = namedtuple("Case", "kind inputs result")
@@ -90,6 +92,7 @@ KINDS = {
         RULED_TRAJECTORY + ADJOINT_NUMBERS + RUN_WEIGHTS + RULED_LENT,
         STEP_RESULT,
     ),
+    JOB: Kind("job", (("job", "bytes"),), (("text", "bytes"),)),
 }
 
 
@@ -100,7 +103,7 @@ def names_of_samples(kind):
 
 # struct's letter for a number of each type, and for the elements of a slice of each type.
 NUMBERS = {"count": "Q", "real": "Q", "flag": "B"}
-ELEMENTS = {"counts": "Q", "columns": "I", "reals": "Q"}
+ELEMENTS = {"counts": "Q", "columns": "I", "reals": "Q", "bytes": "B"}
 
 
 def encode_field(type_, value):

@@ -2,6 +2,7 @@
 
 import sys
 
+import job_inputs
 import networks
 import roots
 import runs
@@ -18,6 +19,7 @@ LISTS = {
     "crates/replay_networks/stdin": (networks.inputs,),
     "crates/replay_steps/stdin": (steps.inputs, steps6.inputs),
     "crates/replay_runs/stdin": (runs.inputs,),
+    "crates/replay_jobs/stdin": (job_inputs.inputs,),
 }
 
 

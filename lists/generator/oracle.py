@@ -6,9 +6,11 @@ import sys
 from checks import HALF_PI, ROWS_OF_REALS, faults, lengths_of_steps
 from formulas import root
 from ieee import is_finite, is_nan, to_float
+from jobs import call_of, malformed_text, text_of
 from list_format import (
     EVOLVE,
     EVOLVE_ADJOINT,
+    JOB,
     KINDS,
     ROOT,
     SEGMENT_INDEX,
@@ -35,7 +37,9 @@ MOST_SEGMENTS_OF_ORACLE = 100000
 
 
 def reference_alone(kind, inputs):
-    """Does the reference alone decide?"""
+    """Does the reference alone decide? The Rust has steps and no jobs: one that is malformed asks for none."""
+    if kind == JOB:
+        return True
     met = faults(kind, inputs) if kind != ROOT else []
     if not met:
         return False
@@ -130,17 +134,29 @@ def settled(kind, inputs, rust):
     return agreed(kind, result(kind, inputs), rust)
 
 
+def call_made(kind, inputs):
+    """The kind and the inputs of the call behind a case: of a job its step."""
+    return call_of(inputs["job"]) if kind == JOB else expanded(kind, inputs)
+
+
+def alone(kind, inputs):
+    """The result where the reference alone decides."""
+    return {"text": malformed_text(inputs["job"])} if kind == JOB else result(kind, inputs)
+
+
 def settle(program, inputs):
     """The cases with their results. Stops at a difference between the Rust and the reference that 01 does not list. The Rust is not
     asked where the reference alone decides: it has no limit of steps, for one."""
-    calls = [expanded(*pair) for pair in inputs]
-    alone = [reference_alone(*call) for call in calls]
-    answers = replies(program, [call for call, is_alone in zip(calls, alone) if not is_alone])
+    calls = [call_made(*pair) for pair in inputs]
+    are_alone = [reference_alone(*call) for call in calls]
+    answers = replies(program, [call for call, is_alone in zip(calls, are_alone) if not is_alone])
     cases = []
-    for (kind, fields), call, is_alone in zip(inputs, calls, alone):
+    for (kind, fields), call, is_alone in zip(inputs, calls, are_alone):
         try:
-            expected = result(*call) if is_alone else settled(*call, next(answers))
+            expected = alone(*call) if is_alone else settled(*call, next(answers))
         except Difference as difference:
-            sys.exit(f"lists: the Rust's {KINDS[kind].name} gives {difference}\nlists: on {fields}")
+            sys.exit(f"lists: the Rust's {KINDS[call[0]].name} gives {difference}\nlists: on {fields}")
+        if kind == JOB and call[0] != JOB:
+            expected = {"text": text_of(expected)}
         cases.append(Case(kind, fields, expected))
     return cases
