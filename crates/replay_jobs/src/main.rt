@@ -1,0 +1,63 @@
+// Replays a stored list of jobs: each is run again, and the text is compared with the one expected in every byte, except that the digits
+// of any NaN match those of any NaN.
+use crate::texts::are_alike;
+use job_run::run_job;
+use job_text::TEXT;
+use replay::Case;
+use replay::Tally;
+use replay::fields::further;
+use replay::fields::number32;
+use replay::next_case;
+
+mod texts;
+
+// Whether a text is the one with which the case ends from a position on.
+fn text_right(text: &[u8], fields: &[u8], at: usize) -> bool {
+    let start = further(at, 4);
+    if fields.len() < start {
+        return false;
+    }
+    number32(fields, at) as usize == text.len() && are_alike(text, &fields[start..])
+}
+
+// Whether the job with which the case starts is answered by the text behind it.
+fn job_right(fields: &[u8]) -> bool {
+    let end = further(4, number32(fields, 0) as usize);
+    if end < 4 || fields.len() < end {
+        return false;
+    }
+    let mut text = [0u8; TEXT];
+    let length = run_job(&fields[4..end], &mut text);
+    text_right(&text[..length], fields, end)
+}
+
+// The same of the case whose fields stand at the start of the buffer.
+fn case_right(kind: u64, len: usize, buffer: &[u8]) -> bool {
+    if kind != 20 || buffer.len() < len {
+        return false;
+    }
+    job_right(&buffer[..len])
+}
+
+// One case more.
+fn step(buffer: &mut [u8], tally: Tally) -> Tally {
+    let case = next_case(buffer);
+    match case {
+        Case::Fields(kind, len) => tally.counted(case_right(kind, len, buffer)),
+        Case::End => tally.stopped(true),
+        Case::Broken => tally.stopped(false),
+    }
+}
+
+fn main() {
+    let mut space = io::large_buffer();
+    let buffer: &mut [u8] = &mut space;
+    let mut tally = Tally::new();
+    for _ in 0..1_000_001usize {
+        if tally.ended {
+            break;
+        }
+        tally = step(buffer, tally);
+    }
+    tally.summary();
+}
