@@ -1,0 +1,46 @@
+use answer::Answer;
+use answer::checked;
+use varcoef_magnus_graph_adjoint::evolve_state_adjoint_into;
+
+#[no_mangle]
+pub extern "C" fn fuistelo_varcoef_evolve_state_adjoint_into(
+    n: usize,
+    row_ptr: &[usize],
+    col_idx: &[u32],
+    segments: usize,
+    breakpoints: &[f64],
+    starts: &[f64],
+    ends: &[f64],
+    laws: &[u8],
+    tau: f64,
+    steps: usize,
+    rho_bar_max: f64,
+    a_sup_max: f64,
+    convergence_radius_check: bool,
+    a_starts: &[f64],
+    a_ends: &[f64],
+    src: &[f64],
+    dst: &mut [f64],
+    work: &mut [f64],
+) -> Answer {
+    checked(evolve_state_adjoint_into(
+        n,
+        row_ptr,
+        col_idx,
+        segments,
+        breakpoints,
+        starts,
+        ends,
+        laws,
+        tau,
+        steps,
+        rho_bar_max,
+        a_sup_max,
+        convergence_radius_check,
+        a_starts,
+        a_ends,
+        src,
+        dst,
+        work,
+    ))
+}
