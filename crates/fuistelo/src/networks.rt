@@ -1,26 +1,65 @@
+// The calls on one Laplacian and on signals.
+ghost use mathlib.Core.Path.{_≡_};
+ghost use mathlib.Core.List.{[], _∷_};
+ghost use lib.Ieee.{binary64};
+ghost use Rattle.error.specs.Refusals.{real, Answers};
+ghost use Rattle.graph.specs.Gershgorin.{gershgorinBound};
+ghost use Rattle.graph.specs.PatternChecks.{patternFault, csrFault};
+ghost use Rattle.graph.specs.ProductOutcome.{productOutcome};
+ghost use Rattle.graph_signal.specs.Outcome.{copyOutcome, sumOutcome};
+ghost use Rattle.answer.specs.Struct.{structOf, Tells};
 use answer::Answer;
+use answer::Row;
 use answer::checked;
+use answer::laid_out;
+use answer::refused;
+use graph::Bounded;
 use graph::apply_into_slice;
 use graph::check_pattern;
 use graph::from_csr_parts;
+use graph::gershgorin_bound_csr;
 use graph_signal::axpy_into_slice;
 use graph_signal::copy_from;
 
+// Whether the parts make up a Laplacian.
 #[no_mangle]
 pub extern "C" fn fuistelo_from_csr_parts(
     n: usize,
     row_ptr: &[usize],
     col_idx: &[u32],
     vals: &[f64],
-) -> Answer {
+) -> Answer
+    ensures { λ r. ⌜ Tells r (λ answer. Answers answer (csrFault n (now («row_ptr» .entry)) (now («col_idx» .entry)) (now (vals .entry)))) ⌝ }
+{
     checked(from_csr_parts(n, row_ptr, col_idx, vals))
 }
 
+// The same of row starts and columns alone.
 #[no_mangle]
-pub extern "C" fn fuistelo_check_pattern(n: usize, row_ptr: &[usize], col_idx: &[u32]) -> Answer {
+pub extern "C" fn fuistelo_check_pattern(n: usize, row_ptr: &[usize], col_idx: &[u32]) -> Answer
+    ensures { λ r. ⌜ Tells r (λ answer. Answers answer (patternFault n (now («row_ptr» .entry)) (now («col_idx» .entry)))) ⌝ }
+{
     checked(check_pattern(n, row_ptr, col_idx))
 }
 
+// The Gershgorin bound: where it is accepted, its one real.
+#[no_mangle]
+pub extern "C" fn fuistelo_gershgorin_bound_csr(
+    n: usize,
+    row_ptr: &[usize],
+    col_idx: &[u32],
+    vals: &[f64],
+) -> Answer
+    ensures { λ r. ⌜ r ≡ structOf (csrFault n (now («row_ptr» .entry)) (now («col_idx» .entry)) (now (vals .entry)))
+        (real (gershgorinBound binary64 (now («row_ptr» .entry)) (now (vals .entry))) ∷ []) ⌝ }
+{
+    match gershgorin_bound_csr(n, row_ptr, col_idx, vals) {
+        Bounded::Bound(bound) => laid_out(Row::Real(0, bound)),
+        Bounded::Refused(refusal) => refused(refusal),
+    }
+}
+
+// The row product.
 #[no_mangle]
 pub extern "C" fn fuistelo_apply_into_slice(
     n: usize,
@@ -29,16 +68,29 @@ pub extern "C" fn fuistelo_apply_into_slice(
     vals: &[f64],
     src: &[f64],
     dst: &mut [f64],
-) -> Answer {
+) -> Answer
+    ensures answer { λ r. let outcome = productOutcome n (now («row_ptr» .entry)) (now («col_idx» .entry)) (now (vals .entry))
+        (now (src .entry)) (now (dst .entry)) in ⌜ Tells r (λ answer. Answers answer (outcome .answer)) ⌝ }
+    ensures output { λ r. let outcome = productOutcome n (now («row_ptr» .entry)) (now («col_idx» .entry)) (now (vals .entry))
+        (now (src .entry)) (now (dst .entry)) in ⌜ now (dst .exit) ≡ outcome .output ⌝ }
+{
     checked(apply_into_slice(n, row_ptr, col_idx, vals, src, dst))
 }
 
+// The signal becomes src.
 #[no_mangle]
-pub extern "C" fn fuistelo_copy_from(signal: &mut [f64], src: &[f64]) -> Answer {
+pub extern "C" fn fuistelo_copy_from(signal: &mut [f64], src: &[f64]) -> Answer
+    ensures answer { λ r. ⌜ Tells r (λ answer. Answers answer (copyOutcome (now (signal .entry)) (now (src .entry)) .answer)) ⌝ }
+    ensures written { λ r. ⌜ now (signal .exit) ≡ copyOutcome (now (signal .entry)) (now (src .entry)) .signal ⌝ }
+{
     checked(copy_from(signal, src))
 }
 
+// The signal becomes signal + alpha · src.
 #[no_mangle]
-pub extern "C" fn fuistelo_axpy_into_slice(signal: &mut [f64], alpha: f64, src: &[f64]) -> Answer {
+pub extern "C" fn fuistelo_axpy_into_slice(signal: &mut [f64], alpha: f64, src: &[f64]) -> Answer
+    ensures answer { λ r. ⌜ Tells r (λ answer. Answers answer (sumOutcome (now (signal .entry)) alpha (now (src .entry)) .answer)) ⌝ }
+    ensures written { λ r. ⌜ now (signal .exit) ≡ sumOutcome (now (signal .entry)) alpha (now (src .entry)) .signal ⌝ }
+{
     checked(axpy_into_slice(signal, alpha, src))
 }

@@ -1,8 +1,35 @@
+// The lookup of a segment and the runs along a trajectory.
+ghost use mathlib.Core.Path.{_≡_};
+ghost use mathlib.Core.List.{[], _∷_};
+ghost use Rattle.error.specs.Refusals.{count};
+ghost use Rattle.graph_traj.specs.Lookup.{segmentAt};
+ghost use Rattle.graph_traj.specs.Trajectory.{trajectory};
+ghost use Rattle.graph_traj.specs.TrajectoryChecks.{lookupFault};
+ghost use Rattle.magnus_graph_traj.specs.RunOutcome.{forwardRun, adjointRun, Ran};
+ghost use Rattle.answer.specs.Struct.{structOf, Tells};
 use answer::Answer;
+use answer::Row;
 use answer::checked;
+use answer::laid_out;
+use answer::refused;
+use graph_traj::Located;
+use graph_traj::segment_index;
 use magnus_graph_traj::evolve_state_adjoint_into;
 use magnus_graph_traj::evolve_with_traj_into;
 
+// The segment in which t lies: where it is accepted, its one count.
+#[no_mangle]
+pub extern "C" fn fuistelo_segment_index(segments: usize, breakpoints: &[f64], t: f64) -> Answer
+    ensures { λ r. ⌜ r ≡ structOf (lookupFault segments (now (breakpoints .entry)) t)
+        (count (segmentAt segments (now (breakpoints .entry)) t) ∷ []) ⌝ }
+{
+    match segment_index(segments, breakpoints, t) {
+        Located::Segment(segment) => laid_out(Row::Count(0, segment)),
+        Located::Refused(refusal) => refused(refusal),
+    }
+}
+
+// The forward run.
 #[no_mangle]
 pub extern "C" fn fuistelo_evolve_with_traj_into(
     n: usize,
@@ -19,7 +46,12 @@ pub extern "C" fn fuistelo_evolve_with_traj_into(
     src: &[f64],
     dst: &mut [f64],
     work: &mut [f64],
-) -> Answer {
+) -> Answer
+    ensures { λ r. ⌜ Tells r (λ answer. Ran (forwardRun (trajectory n (now («row_ptr» .entry)) (now («col_idx» .entry)) segments
+        (now (breakpoints .entry)) (now (starts .entry)) (now (ends .entry)) (now (laws .entry)))
+        steps «rho_bar_max» «convergence_radius_check» (now (src .entry)) (now (dst .entry)) (now (work .entry)))
+        answer (now (dst .exit)) (now (work .exit))) ⌝ }
+{
     checked(evolve_with_traj_into(
         n,
         row_ptr,
@@ -38,6 +70,7 @@ pub extern "C" fn fuistelo_evolve_with_traj_into(
     ))
 }
 
+// The adjoint run.
 #[no_mangle]
 pub extern "C" fn fuistelo_evolve_state_adjoint_into(
     n: usize,
@@ -55,7 +88,12 @@ pub extern "C" fn fuistelo_evolve_state_adjoint_into(
     src: &[f64],
     dst: &mut [f64],
     work: &mut [f64],
-) -> Answer {
+) -> Answer
+    ensures { λ r. ⌜ Tells r (λ answer. Ran (adjointRun (trajectory n (now («row_ptr» .entry)) (now («col_idx» .entry)) segments
+        (now (breakpoints .entry)) (now (starts .entry)) (now (ends .entry)) (now (laws .entry)))
+        tau steps «rho_bar_max» «convergence_radius_check» (now (src .entry)) (now (dst .entry)) (now (work .entry)))
+        answer (now (dst .exit)) (now (work .exit))) ⌝ }
+{
     checked(evolve_state_adjoint_into(
         n,
         row_ptr,

@@ -1,11 +1,15 @@
+// The steps of order 4 and the step of order 6.
+ghost use Rattle.magnus_graph_helpers.specs.StepChecks.{sample};
+ghost use Rattle.magnus_graph.specs.StepOutcome.{stepInput, Stepped, forward, adjoint};
+ghost use Rattle.magnus6_graph.specs.StepOutcome.{step6Input, Stepped6};
+ghost use Rattle.answer.specs.Struct.{Tells};
 use answer::Answer;
 use answer::checked;
 use magnus_graph::apply_exp_omega4_adj_kernel;
 use magnus_graph::apply_exp_omega4_kernel;
 use magnus6_graph::apply_exp_omega6_kernel;
-use varcoef_magnus_graph::apply_exp_omega4_la_adj_kernel;
-use varcoef_magnus_graph::apply_exp_omega4_la_kernel;
 
+// The forward step of order 4.
 #[no_mangle]
 pub extern "C" fn fuistelo_apply_exp_omega4_kernel(
     n1: usize,
@@ -22,7 +26,13 @@ pub extern "C" fn fuistelo_apply_exp_omega4_kernel(
     src: &[f64],
     dst: &mut [f64],
     work: &mut [f64],
-) -> Answer {
+) -> Answer
+    ensures { λ r. ⌜ Tells r (λ answer. Stepped forward (stepInput
+        (sample n1 (now («row_ptr1» .entry)) (now («col_idx1» .entry)) (now (vals1 .entry)))
+        (sample n2 (now («row_ptr2» .entry)) (now («col_idx2» .entry)) (now (vals2 .entry)))
+        tau «rho_bar_max» «convergence_radius_check» (now (src .entry)) (now (dst .entry)) (now (work .entry)))
+        answer (now (dst .exit)) (now (work .exit))) ⌝ }
+{
     checked(apply_exp_omega4_kernel(
         n1,
         row_ptr1,
@@ -41,6 +51,7 @@ pub extern "C" fn fuistelo_apply_exp_omega4_kernel(
     ))
 }
 
+// The adjoint step of order 4.
 #[no_mangle]
 pub extern "C" fn fuistelo_apply_exp_omega4_adj_kernel(
     n1: usize,
@@ -57,7 +68,13 @@ pub extern "C" fn fuistelo_apply_exp_omega4_adj_kernel(
     src: &[f64],
     dst: &mut [f64],
     work: &mut [f64],
-) -> Answer {
+) -> Answer
+    ensures { λ r. ⌜ Tells r (λ answer. Stepped adjoint (stepInput
+        (sample n1 (now («row_ptr1» .entry)) (now («col_idx1» .entry)) (now (vals1 .entry)))
+        (sample n2 (now («row_ptr2» .entry)) (now («col_idx2» .entry)) (now (vals2 .entry)))
+        tau «rho_bar_max» «convergence_radius_check» (now (src .entry)) (now (dst .entry)) (now (work .entry)))
+        answer (now (dst .exit)) (now (work .exit))) ⌝ }
+{
     checked(apply_exp_omega4_adj_kernel(
         n1,
         row_ptr1,
@@ -76,88 +93,7 @@ pub extern "C" fn fuistelo_apply_exp_omega4_adj_kernel(
     ))
 }
 
-#[no_mangle]
-pub extern "C" fn fuistelo_apply_exp_omega4_la_kernel(
-    n1: usize,
-    row_ptr1: &[usize],
-    col_idx1: &[u32],
-    vals1: &[f64],
-    n2: usize,
-    row_ptr2: &[usize],
-    col_idx2: &[u32],
-    vals2: &[f64],
-    tau: f64,
-    rho_bar_max: f64,
-    a_sup_max: f64,
-    convergence_radius_check: bool,
-    a1: &[f64],
-    a2: &[f64],
-    src: &[f64],
-    dst: &mut [f64],
-    work: &mut [f64],
-) -> Answer {
-    checked(apply_exp_omega4_la_kernel(
-        n1,
-        row_ptr1,
-        col_idx1,
-        vals1,
-        n2,
-        row_ptr2,
-        col_idx2,
-        vals2,
-        tau,
-        rho_bar_max,
-        a_sup_max,
-        convergence_radius_check,
-        a1,
-        a2,
-        src,
-        dst,
-        work,
-    ))
-}
-
-#[no_mangle]
-pub extern "C" fn fuistelo_apply_exp_omega4_la_adj_kernel(
-    n1: usize,
-    row_ptr1: &[usize],
-    col_idx1: &[u32],
-    vals1: &[f64],
-    n2: usize,
-    row_ptr2: &[usize],
-    col_idx2: &[u32],
-    vals2: &[f64],
-    tau: f64,
-    rho_bar_max: f64,
-    a_sup_max: f64,
-    convergence_radius_check: bool,
-    a1: &[f64],
-    a2: &[f64],
-    src: &[f64],
-    dst: &mut [f64],
-    work: &mut [f64],
-) -> Answer {
-    checked(apply_exp_omega4_la_adj_kernel(
-        n1,
-        row_ptr1,
-        col_idx1,
-        vals1,
-        n2,
-        row_ptr2,
-        col_idx2,
-        vals2,
-        tau,
-        rho_bar_max,
-        a_sup_max,
-        convergence_radius_check,
-        a1,
-        a2,
-        src,
-        dst,
-        work,
-    ))
-}
-
+// The step of order 6.
 #[no_mangle]
 pub extern "C" fn fuistelo_apply_exp_omega6_kernel(
     n1: usize,
@@ -178,7 +114,14 @@ pub extern "C" fn fuistelo_apply_exp_omega6_kernel(
     src: &[f64],
     dst: &mut [f64],
     work: &mut [f64],
-) -> Answer {
+) -> Answer
+    ensures { λ r. ⌜ Tells r (λ answer. Stepped6 (step6Input
+        (sample n1 (now («row_ptr1» .entry)) (now («col_idx1» .entry)) (now (vals1 .entry)))
+        (sample n2 (now («row_ptr2» .entry)) (now («col_idx2» .entry)) (now (vals2 .entry)))
+        (sample n3 (now («row_ptr3» .entry)) (now («col_idx3» .entry)) (now (vals3 .entry)))
+        tau «rho_bar_max» «convergence_radius_check» (now (src .entry)) (now (dst .entry)) (now (work .entry)))
+        answer (now (dst .exit)) (now (work .exit))) ⌝ }
+{
     checked(apply_exp_omega6_kernel(
         n1,
         row_ptr1,

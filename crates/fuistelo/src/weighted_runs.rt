@@ -1,7 +1,12 @@
+// The weighted adjoint run along a trajectory.
+ghost use Rattle.graph_traj.specs.Trajectory.{trajectory};
+ghost use Rattle.varcoef_magnus_graph_adjoint.specs.WeightedRunOutcome.{weightedAdjointRun, Ran};
+ghost use Rattle.answer.specs.Struct.{Tells};
 use answer::Answer;
 use answer::checked;
 use varcoef_magnus_graph_adjoint::evolve_state_adjoint_into;
 
+// The adjoint run with node weights.
 #[no_mangle]
 pub extern "C" fn fuistelo_varcoef_evolve_state_adjoint_into(
     n: usize,
@@ -22,7 +27,13 @@ pub extern "C" fn fuistelo_varcoef_evolve_state_adjoint_into(
     src: &[f64],
     dst: &mut [f64],
     work: &mut [f64],
-) -> Answer {
+) -> Answer
+    ensures { λ r. ⌜ Tells r (λ answer. Ran (weightedAdjointRun (trajectory n (now («row_ptr» .entry)) (now («col_idx» .entry)) segments
+        (now (breakpoints .entry)) (now (starts .entry)) (now (ends .entry)) (now (laws .entry)))
+        tau steps «rho_bar_max» «a_sup_max» «convergence_radius_check» (now («a_starts» .entry)) (now («a_ends» .entry))
+        (now (src .entry)) (now (dst .entry)) (now (work .entry)))
+        answer (now (dst .exit)) (now (work .exit))) ⌝ }
+{
     checked(evolve_state_adjoint_into(
         n,
         row_ptr,

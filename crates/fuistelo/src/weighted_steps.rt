@@ -1,0 +1,107 @@
+// The steps of order 4 with node weights.
+ghost use Rattle.magnus_graph_helpers.specs.StepChecks.{sample};
+ghost use Rattle.magnus_graph.specs.StepOutcome.{forward, adjoint};
+ghost use Rattle.varcoef_magnus_graph.specs.StepOutcome.{stepInput, Stepped};
+ghost use Rattle.answer.specs.Struct.{Tells};
+use answer::Answer;
+use answer::checked;
+use varcoef_magnus_graph::apply_exp_omega4_la_adj_kernel;
+use varcoef_magnus_graph::apply_exp_omega4_la_kernel;
+
+// The forward weighted step.
+#[no_mangle]
+pub extern "C" fn fuistelo_apply_exp_omega4_la_kernel(
+    n1: usize,
+    row_ptr1: &[usize],
+    col_idx1: &[u32],
+    vals1: &[f64],
+    n2: usize,
+    row_ptr2: &[usize],
+    col_idx2: &[u32],
+    vals2: &[f64],
+    tau: f64,
+    rho_bar_max: f64,
+    a_sup_max: f64,
+    convergence_radius_check: bool,
+    a1: &[f64],
+    a2: &[f64],
+    src: &[f64],
+    dst: &mut [f64],
+    work: &mut [f64],
+) -> Answer
+    ensures { λ r. ⌜ Tells r (λ answer. Stepped forward (stepInput
+        (sample n1 (now («row_ptr1» .entry)) (now («col_idx1» .entry)) (now (vals1 .entry)))
+        (sample n2 (now («row_ptr2» .entry)) (now («col_idx2» .entry)) (now (vals2 .entry)))
+        tau «rho_bar_max» «a_sup_max» «convergence_radius_check» (now (a1 .entry)) (now (a2 .entry))
+        (now (src .entry)) (now (dst .entry)) (now (work .entry)))
+        answer (now (dst .exit)) (now (work .exit))) ⌝ }
+{
+    checked(apply_exp_omega4_la_kernel(
+        n1,
+        row_ptr1,
+        col_idx1,
+        vals1,
+        n2,
+        row_ptr2,
+        col_idx2,
+        vals2,
+        tau,
+        rho_bar_max,
+        a_sup_max,
+        convergence_radius_check,
+        a1,
+        a2,
+        src,
+        dst,
+        work,
+    ))
+}
+
+// The adjoint weighted step.
+#[no_mangle]
+pub extern "C" fn fuistelo_apply_exp_omega4_la_adj_kernel(
+    n1: usize,
+    row_ptr1: &[usize],
+    col_idx1: &[u32],
+    vals1: &[f64],
+    n2: usize,
+    row_ptr2: &[usize],
+    col_idx2: &[u32],
+    vals2: &[f64],
+    tau: f64,
+    rho_bar_max: f64,
+    a_sup_max: f64,
+    convergence_radius_check: bool,
+    a1: &[f64],
+    a2: &[f64],
+    src: &[f64],
+    dst: &mut [f64],
+    work: &mut [f64],
+) -> Answer
+    ensures { λ r. ⌜ Tells r (λ answer. Stepped adjoint (stepInput
+        (sample n1 (now («row_ptr1» .entry)) (now («col_idx1» .entry)) (now (vals1 .entry)))
+        (sample n2 (now («row_ptr2» .entry)) (now («col_idx2» .entry)) (now (vals2 .entry)))
+        tau «rho_bar_max» «a_sup_max» «convergence_radius_check» (now (a1 .entry)) (now (a2 .entry))
+        (now (src .entry)) (now (dst .entry)) (now (work .entry)))
+        answer (now (dst .exit)) (now (work .exit))) ⌝ }
+{
+    checked(apply_exp_omega4_la_adj_kernel(
+        n1,
+        row_ptr1,
+        col_idx1,
+        vals1,
+        n2,
+        row_ptr2,
+        col_idx2,
+        vals2,
+        tau,
+        rho_bar_max,
+        a_sup_max,
+        convergence_radius_check,
+        a1,
+        a2,
+        src,
+        dst,
+        work,
+    ))
+}
