@@ -108,7 +108,15 @@ fn weighted_steps() {
     let ones = weighted(apply_exp_omega4_la_kernel, &[1.0; N], &[1.0; N], &SIGNAL).unwrap();
     assert!(plain.iter().zip(&ones).all(|(x, y)| (x - y).abs() < 1e-12));
     assert_eq!(weighted(apply_exp_omega4_la_kernel, &a1, &[0.5, 0.0, -1.0, 0.5], &SIGNAL), Err(Refusal::Weight(0.0)));
+    assert_eq!(weighted(apply_exp_omega4_la_kernel, &[-1.0; N], &[-2.0; N], &SIGNAL), Err(Refusal::Weight(-1.0)));
     assert_eq!(weighted(apply_exp_omega4_la_kernel, &a1[..3], &a2, &SIGNAL), Err(Refusal::Length(4)));
+    let mut work = [7.0; omega4_la_work(N)];
+    let mut bounds = |rho_bar_max: f64, a_sup_max: f64| {
+        let (first, second, mut dst) = (laplacian(&FIRST), laplacian(&SECOND), [0.0; N]);
+        apply_exp_omega4_la_kernel(first, second, TAU, rho_bar_max, a_sup_max, true, &a1, &a2, &SIGNAL, &mut dst, &mut work)
+    };
+    assert_eq!(bounds(-1.0, -2.0), Err(Refusal::Bound(-1.0)));
+    assert_eq!(bounds(3.0, 2.0), Err(Refusal::Radius(TAU, 12.0)));
 }
 
 #[test]
@@ -126,6 +134,9 @@ fn step_of_order_6() {
         sum.iter_mut().zip(&term).for_each(|(s, t)| *s += t);
     }
     assert!(sum.iter().zip(&dst).all(|(x, y)| (x - y).abs() < 1e-12));
+    let (two, three) = (laplacian(&FIRST[..2]), Laplacian { n: 9, ..first });
+    assert_eq!(apply_exp_omega6_kernel(first, two, three, TAU, BOUND, true, &SIGNAL, &mut dst, &mut work), Err(Refusal::EntryCount(10)));
+    assert_eq!(apply_exp_omega6_kernel(first, three, two, TAU, BOUND, true, &SIGNAL, &mut dst, &mut work), Err(Refusal::RowStartCount(5)));
     let small = Laplacian { n: 0, row_ptr: &[0], col_idx: &[], vals: &[] };
     assert_eq!(apply_exp_omega6_kernel(first, second, small, TAU, BOUND, true, &SIGNAL, &mut dst, &mut work), Err(Refusal::Length(0)));
     let short = &mut work[1..];

@@ -110,6 +110,8 @@ fn weighted_adjoint_run_is_its_steps() {
         apply_exp_omega4_la_adj_kernel(first, first, 0.25, BOUND, 1.0, true, &a_starts, &a_starts, &src, &mut held, &mut step_work).unwrap();
     }
     assert_eq!(bits(&ran), bits(&held));
+    let bounds = varcoef_evolve_state_adjoint_into(along, 0.25, 2, -1.0, -2.0, true, &a_starts, &a_ends, &SIGNAL, &mut [0.0; N], &mut work);
+    assert_eq!(bounds, Err(Refusal::Bound(-1.0)));
     assert_eq!(run(2, &a_ends[1..], &mut work), Err(Refusal::Length(4)));
     assert_eq!(run(2, &a_ends, &mut work[1..]), Err(Refusal::Length(63)));
     assert_eq!(run(70_000, &a_ends, &mut work), Err(Refusal::StepCount(70_000)));
