@@ -136,6 +136,7 @@ fn step_of_order_6() {
     assert!(sum.iter().zip(&dst).all(|(x, y)| (x - y).abs() < 1e-12));
     let (two, three) = (laplacian(&FIRST[..2]), Laplacian { n: 9, ..first });
     assert_eq!(apply_exp_omega6_kernel(first, two, three, TAU, BOUND, true, &SIGNAL, &mut dst, &mut work), Err(Refusal::EntryCount(10)));
+    assert_eq!(apply_exp_omega6_kernel(two, three, first, TAU, BOUND, true, &SIGNAL, &mut dst, &mut work), Err(Refusal::EntryCount(10)));
     assert_eq!(apply_exp_omega6_kernel(first, three, two, TAU, BOUND, true, &SIGNAL, &mut dst, &mut work), Err(Refusal::RowStartCount(5)));
     let small = Laplacian { n: 0, row_ptr: &[0], col_idx: &[], vals: &[] };
     assert_eq!(apply_exp_omega6_kernel(first, second, small, TAU, BOUND, true, &SIGNAL, &mut dst, &mut work), Err(Refusal::Length(0)));
