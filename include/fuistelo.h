@@ -4,8 +4,9 @@
  *   - each pointer is non-null and aligned to its element, also where the length is 0, and points to that many initialized elements;
  *   - a slice that is written (its pointer is not const) overlaps no other slice of the call; slices that are only read may overlap;
  *   - rounding is to nearest, and subnormal numbers are kept: the state in which a C program starts.
- * Nothing else is asked: any numbers and any lengths are answered, and NaN and infinities are legal in signals. No call allocates, keeps
- * anything between calls or stops half way, and calls from several threads need no lock while no slice that one writes is used by another.
+ * Nothing else is asked: any numbers and any lengths are answered, and NaN and infinities are legal in signals. Which NaN is written or told is
+ * not fixed. No call allocates, keeps anything between calls or stops half way, and calls from several threads need no lock while no slice that
+ * one writes is used by another.
  *
  * A network of n nodes has a Laplacian in compressed sparse rows: row_ptr (n + 1 row starts), and col_idx and vals (a column and a value for
  * each entry). Row i has the entries from row_ptr[i] up to row_ptr[i + 1]; entries before row_ptr[0] belong to no row.

@@ -40,7 +40,7 @@ laidOut number values = record {
   second = getD (realsIn values) 1 noReal;
 }
 
--- the struct of a row of the code
+-- the struct of a number with its values, as the code passes them on
 abbrev pub told : Row → Answer
 told (Alone number) = laidOut number []
 told (Count number k) = laidOut number (count k ∷ [])

@@ -3,6 +3,19 @@
 //! Every call is answered, whatever numbers and lengths it is given: `Ok`, or a [`Refusal`] that says the first fault. A refusal leaves
 //! every slice as it was, but where a run says otherwise. The proofs are about the functions in libfuistelo.a; this crate only passes
 //! slices on to them and reads their answers. NaN and infinities are legal in signals.
+//!
+//! ```
+//! use fuistelo::{apply_into_slice, gershgorin_bound_csr, Laplacian, Refusal};
+//!
+//! // Two nodes and the link between them.
+//! let link = Laplacian { n: 2, row_ptr: &[0, 2, 4], col_idx: &[0, 1, 0, 1], vals: &[0.5, -0.5, -0.5, 0.5] };
+//! assert_eq!(gershgorin_bound_csr(link), Ok(1.0));
+//! let mut dst = [0.0; 2];
+//! apply_into_slice(link, &[85.0, 20.0], &mut dst)?;
+//! assert_eq!(dst, [32.5, -32.5]);
+//! assert_eq!(apply_into_slice(link, &[85.0], &mut dst), Err(Refusal::Length(1)));
+//! # Ok::<(), Refusal>(())
+//! ```
 
 mod raw;
 mod refusal;
