@@ -116,6 +116,9 @@ fn weighted_steps() {
         apply_exp_omega4_la_kernel(first, second, TAU, rho_bar_max, a_sup_max, true, &a1, &a2, &SIGNAL, &mut dst, &mut work)
     };
     assert_eq!(bounds(-1.0, -2.0), Err(Refusal::Bound(-1.0)));
+    let none = Laplacian { n: 0, row_ptr: &[0], col_idx: &[], vals: &[] };
+    assert_eq!(apply_exp_omega4_la_kernel(none, none, TAU, BOUND, 1.0, true, &[], &[], &[], &mut [], &mut []), Err(Refusal::NoNodes(0)));
+    assert_eq!(apply_exp_omega4_kernel(none, none, TAU, BOUND, true, &[], &mut [], &mut []), Ok(()));
     assert_eq!(bounds(3.0, 2.0), Err(Refusal::Radius(TAU, 12.0)));
 }
 

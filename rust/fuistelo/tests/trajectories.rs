@@ -85,6 +85,8 @@ fn adjoint_run_is_its_steps() {
     assert_eq!(bits(&dst), bits(&held));
     assert_eq!(evolve_state_adjoint_into(along, f64::NAN, 0, BOUND, true, &SIGNAL, &mut dst, &mut []), Ok(()));
     assert_eq!(bits(&dst), bits(&SIGNAL));
+    let late = Trajectory { breakpoints: &[0.5, 1.0], ..along };
+    assert_eq!(evolve_state_adjoint_into(late, 0.25, 3, BOUND, true, &SIGNAL, &mut dst, &mut work), Err(Refusal::FirstBreakpoint(0.5)));
     let starts = [FIRST, FIRST].concat();
     let two = two_segments(&starts, &starts, &[0, 0]);
     assert_eq!(evolve_state_adjoint_into(two, 0.25, 3, BOUND, true, &SIGNAL, &mut dst, &mut work), Err(Refusal::SegmentCount(2)));
