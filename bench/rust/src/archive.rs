@@ -3,6 +3,7 @@
 use crate::networks::Network;
 
 mod exported {
+    #[link(name = "bench", kind = "static")]
     extern "C" {
         pub fn bench_from_csr_parts(
             n: usize,

@@ -99,21 +99,45 @@ fn num_traits_sqrt<F: semiflow::SemiflowFloat>(x: F) -> F {
 }
 
 /// n, row starts, columns, values.
-pub fn laplacian(inputs: &mut Fields) -> Result<Laplacian<f64>, SemiflowError> {
-    let n = inputs.count();
-    let (row_ptr, col_idx, vals) = (inputs.counts(), inputs.columns(), inputs.reals());
-    Laplacian::from_csr_parts(n, row_ptr, col_idx, vals, LaplacianKind::GeneralSymmetric)
+pub struct Parts {
+    n: usize,
+    row_ptr: Vec<usize>,
+    col_idx: Vec<u32>,
+    vals: Vec<f64>,
+}
+
+impl Parts {
+    pub fn of(inputs: &mut Fields) -> Self {
+        let n = inputs.count();
+        let (row_ptr, col_idx, vals) = (inputs.counts(), inputs.columns(), inputs.reals());
+        Self {
+            n,
+            row_ptr,
+            col_idx,
+            vals,
+        }
+    }
+
+    pub fn laplacian(self) -> Result<Laplacian<f64>, SemiflowError> {
+        let Self {
+            n,
+            row_ptr,
+            col_idx,
+            vals,
+        } = self;
+        Laplacian::from_csr_parts(n, row_ptr, col_idx, vals, LaplacianKind::GeneralSymmetric)
+    }
 }
 
 fn from_csr_parts(inputs: &mut Fields) -> Reply {
-    match laplacian(inputs) {
+    match Parts::of(inputs).laplacian() {
         Ok(_) => Reply::Answer(answer(0, &[])),
         Err(error) => refused(&error),
     }
 }
 
 fn gershgorin_bound_csr(inputs: &mut Fields) -> Reply {
-    match laplacian(inputs) {
+    match Parts::of(inputs).laplacian() {
         Ok(accepted) => {
             let mut bytes = answer(0, &[]);
             bytes.extend(accepted.spectral_radius_bound().to_le_bytes());
@@ -142,7 +166,7 @@ pub fn refused_unchanged(error: &SemiflowError, slice: &[f64]) -> Reply {
 }
 
 fn apply_into_slice(inputs: &mut Fields) -> Reply {
-    let checked = laplacian(inputs);
+    let checked = Parts::of(inputs).laplacian();
     let (src, mut dst) = (inputs.reals(), inputs.reals());
     match checked {
         Ok(laplacian) => {

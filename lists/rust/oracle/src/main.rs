@@ -2,14 +2,12 @@
 //! the Rust answered and 0 where it panicked; 4 bytes, the length of the rest; then what the list has after the inputs, except
 //! that the values of a refusal are the reals that the Rust reports, counts too.
 
-mod calls;
-mod fields;
-mod runs;
-mod steps;
-
 use std::io::{Read, Write};
 
-use fields::{Fields, Reply};
+use oracle::{
+    calls,
+    fields::{Fields, Reply},
+};
 
 fn main() -> std::io::Result<()> {
     let mut input = Vec::new();

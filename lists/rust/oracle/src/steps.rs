@@ -9,7 +9,7 @@ use std::sync::{
 use semiflow::{
     access,
     chernoff::ChernoffFunction,
-    graph::{Graph, Laplacian},
+    graph::Graph,
     graph_signal::GraphSignal,
     magnus6_graph::MagnusGraphHeat6thChernoff,
     magnus_graph::{LaplacianAtTime, MagnusGraphHeatChernoff},
@@ -19,15 +19,13 @@ use semiflow::{
 };
 
 use crate::{
-    calls::{accepted, laplacian, refused_unchanged},
+    calls::{accepted, refused_unchanged, Parts},
     fields::{Fields, Reply},
 };
 
-type Sample = Result<Laplacian<f64>, SemiflowError>;
-
 /// What a step of each form works with: its samples and its numbers.
 struct Step<const SAMPLES: usize> {
-    samples: [Sample; SAMPLES],
+    samples: [Parts; SAMPLES],
     tau: f64,
     bound: f64,
     check: bool,
@@ -35,7 +33,7 @@ struct Step<const SAMPLES: usize> {
 
 impl<const SAMPLES: usize> Step<SAMPLES> {
     fn of(inputs: &mut Fields) -> Self {
-        let samples = core::array::from_fn(|_| laplacian(inputs));
+        let samples = core::array::from_fn(|_| Parts::of(inputs));
         let (tau, bound) = (inputs.real(), inputs.real());
         let check = inputs.flag();
         Self {
@@ -55,11 +53,11 @@ fn in_turn<T: Clone>(samples: Vec<T>) -> impl Fn(f64) -> T {
 
 /// The samples, each wholly checked before the next, and the first one's n.
 fn samples_in_turn<const SAMPLES: usize>(
-    samples: [Sample; SAMPLES],
+    samples: [Parts; SAMPLES],
 ) -> Result<(LaplacianAtTime<f64>, usize), SemiflowError> {
     let mut checked = Vec::new();
     for sample in samples {
-        checked.push(Arc::new(sample?));
+        checked.push(Arc::new(sample.laplacian()?));
     }
     let n = checked[0].n_nodes();
     Ok((Box::new(in_turn(checked)), n))
