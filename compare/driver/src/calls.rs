@@ -254,3 +254,23 @@ pub fn outcome(call: Call, case: &Case, memory: &mut Memory) -> Outcome {
     memory.take_back();
     outcome
 }
+
+/// The names of the slices that are only read in which a change is seen, one after the other. For the self-test.
+pub fn changes_seen(case: &Case, memory: &mut Memory) -> Vec<&'static str> {
+    let lent = LentCase::of(case, memory);
+    let LentNetwork { row_ptr, col_idx, vals, .. } = lent.samples[0];
+    let reals = [vals, lent.breakpoints, lent.starts, lent.ends, lent.weights[0], lent.weights[1], lent.src];
+    let mut bytes =
+        vec![(row_ptr.at.cast(), row_ptr.len), (col_idx.at.cast(), col_idx.len), (lent.laws.at, lent.laws.len)];
+    bytes.extend(reals.map(|slice| (slice.at.cast(), slice.len)));
+    let mut names = Vec::new();
+    for (at, _) in bytes.into_iter().filter(|(_, len)| *len > 0) {
+        let at: *mut u8 = at;
+        // SAFETY: the first byte of a lent slice that has elements.
+        unsafe { *at ^= 1 };
+        names.extend(lent.changed(case));
+        unsafe { *at ^= 1 };
+    }
+    memory.take_back();
+    names
+}

@@ -3,7 +3,7 @@
 use std::{os::unix::process::ExitStatusExt, process::Command};
 
 use crate::{
-    calls::{outcome, Outcome},
+    calls::{changes_seen, outcome, Outcome},
     case::{Call, Case},
     compare::compare,
     exported, generate,
@@ -70,59 +70,91 @@ fn guards() -> Result<(), String> {
     Ok(())
 }
 
-/// An accepted weighted run that takes steps, its rule and its outcome.
-fn sound_run() -> (Case, Rule, Outcome) {
+/// A case of the weighted run that is refused or accepted as asked, with its rule and its outcome. It has entries and steps, and
+/// the output afterwards is finite.
+fn sound_run(refused: bool) -> (Case, Rule, Outcome) {
     let call = Call::VarcoefEvolveAdjoint;
     for k in 0.. {
-        let case = generate::case(call, &mut Random::of(1, k));
+        let mut case = generate::case(call, &mut Random::of(1, k));
+        if refused {
+            case.bound = 0.0;
+        }
         let found = rule(call, &case);
-        if found.refusal.is_none() && case.steps > 0 && !case.work.is_empty() {
-            let ours = outcome(call, &case, &mut Memory::new(Place::Heap));
+        let ours = outcome(call, &case, &mut Memory::new(Place::Heap));
+        let finite = ours.dst.iter().chain(&case.work).all(|x| x.is_finite());
+        if finite && !case.starts.is_empty() && case.steps > 0 && found.refusal.is_some_and(|of| of.row == 9) == refused
+        {
             return (case, found, ours);
         }
     }
     unreachable!("most cases are accepted");
 }
 
-fn other(x: f64) -> f64 {
-    if x.is_nan() {
-        0.0
-    } else {
-        f64::from_bits(x.to_bits() ^ 1)
-    }
-}
-
 /// An outcome in which something is wrong, and what.
 type Wrong = (&'static str, fn(&mut Outcome));
 
-const WRONG: [Wrong; 8] = [
-    ("another number", |of| of.answer.number = 8),
-    ("a count that an acceptance does not carry", |of| of.answer.counts = 1),
-    ("another count", |of| of.answer.count = 1),
-    ("a real that an acceptance does not carry", |of| of.answer.reals = 1),
-    ("the output off in its last bit", |of| of.dst[0] = other(of.dst[0])),
-    ("the work slice not zeroed", |of| of.work[0] = -0.0),
+const WRONG: [Wrong; 9] = [
+    ("another number", |of| of.answer.number += 1),
+    ("another count of counts", |of| of.answer.counts += 1),
+    ("another count", |of| of.answer.count += 1),
+    ("another count of reals", |of| of.answer.reals += 1),
+    ("another real", |of| of.answer.first += 1.0),
+    ("the output off in its last bit", |of| of.dst[0] = f64::from_bits(of.dst[0].to_bits() ^ 1)),
+    ("the work slice off in a sign", |of| of.work[0] = -of.work[0]),
     ("the work slice shorter", |of| of.work.truncate(of.work.len() - 1)),
     ("a read slice changed", |of| of.changed = Some("laws")),
 ];
 
-fn comparison() -> Result<(), String> {
+/// Every wrong outcome is reported, of an accepted run and of a refused one.
+fn outcomes() -> Result<(), String> {
     let call = Call::VarcoefEvolveAdjoint;
-    let (case, found, sound) = sound_run();
-    compare(call, &case, &found, &sound)?;
-    for (what, spoil) in WRONG {
-        let mut ours = sound.clone();
-        spoil(&mut ours);
-        match compare(call, &case, &found, &ours) {
-            Ok(_) => return Err(format!("not seen: {what}")),
-            Err(text) => println!("seen: {what}: {text}"),
+    for refused in [false, true] {
+        let (case, found, sound) = sound_run(refused);
+        compare(call, &case, &found, &sound)?;
+        for (what, spoil) in WRONG {
+            let mut ours = sound.clone();
+            spoil(&mut ours);
+            match compare(call, &case, &found, &ours) {
+                Ok(_) => return Err(format!("not seen: {what}")),
+                Err(text) => println!("seen: {what}: {text}"),
+            }
         }
     }
     Ok(())
 }
 
+/// A wrong refusal is reported by the Rust, even where the rule has it too.
+fn refusals() -> Result<(), String> {
+    let call = Call::VarcoefEvolveAdjoint;
+    let (case, mut found, mut ours) = sound_run(true);
+    found.refusal.as_mut().expect("it is refused").row = 7;
+    ours.answer.number = 7;
+    match compare(call, &case, &found, &ours) {
+        Ok(_) => Err("not seen: a wrong refusal".to_string()),
+        Err(text) => Ok(println!("seen: a wrong refusal: {text}")),
+    }
+}
+
+/// A change of any slice that is only read is seen: of a run, and the values of a step's sample.
+fn read_slices() -> Result<(), String> {
+    let (run, ..) = sound_run(false);
+    let mut step = run.clone();
+    step.samples[0].vals = vec![1.0];
+    let mut names = changes_seen(&run, &mut Memory::new(Place::Heap));
+    names.extend(changes_seen(&step, &mut Memory::new(Place::Heap)));
+    names.sort_unstable();
+    names.dedup();
+    println!("seen: changes of {}", names.join(", "));
+    if names.len() == 10 {
+        return Ok(());
+    }
+    Err("not seen: a change of one of the other slices".to_string())
+}
+
 /// Prints what was seen; an error names what was not.
 pub fn selftest() -> Result<(), String> {
     guards()?;
-    comparison()
+    outcomes()?;
+    refusals()?;
+    read_slices()
 }
