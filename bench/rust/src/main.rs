@@ -1,12 +1,14 @@
 //! The row product and the steps of orders 4 and 6 and the runs beside the published Rust's, in one process and on the same networks: the product
 //! alone, the whole checked call and the pattern check alone, and whole steps. The results must be the Rust's bit for bit; else
-//! it stops.
+//! it stops. With `--table` and two libraries of Eigen's product, all of it goes into one list of comma-separated values.
 
 mod archive;
+mod eigen;
 mod networks;
 mod runs;
 mod steps;
 mod steps6;
+mod table;
 mod timing;
 
 use std::hint::black_box;
@@ -92,6 +94,16 @@ fn measure(network: &Network) -> [f64; 4] {
 
 fn main() {
     let mut random = Random(20_260_101);
+    let arguments: Vec<String> = std::env::args().skip(1).collect();
+    if let [option, plain, native] = &arguments[..] {
+        assert_eq!(option, "--table");
+        let libraries = table::Libraries {
+            plain: table::load(plain),
+            native: table::load(native),
+        };
+        print!("{}", table::csv(&libraries, &mut random));
+        return;
+    }
     println!("row product: nanoseconds a call, the median of many runs, and ratios to the Rust's time");
     for shape in [Shape::Banded, Shape::Scattered] {
         println!("{}", shape.name());

@@ -68,7 +68,7 @@ fn rust_adjoint(
 }
 
 /// Nanoseconds of the Rust's forward run and of ours, of the Rust's adjoint run and of ours.
-fn measure(law: u8, first: &Network, second: &Network) -> [f64; 4] {
+pub fn measure(law: u8, first: &Network, second: &Network) -> [f64; 4] {
     let (n, m) = (first.n, first.col_idx.len());
     let graph = Arc::new(Graph::from_edges(n, Vec::new()).expect("no edge is refused"));
     let magnus = MagnusGraphHeatChernoff::new(graph.clone(), sampler(law, first, second), RHO_BAR_MAX, true)

@@ -25,7 +25,7 @@ const RHO_BAR_MAX: f64 = 8.0;
 const A_SUP_MAX: f64 = 1.25;
 
 /// A network at the two times of a step, and the weights of its nodes then.
-struct Case {
+pub struct Case {
     first: Network,
     second: Network,
     weights: [Vec<f64>; 2],
@@ -48,7 +48,7 @@ fn rust_step(
 }
 
 impl Case {
-    fn new(shape: Shape, n: usize, random: &mut Random) -> Self {
+    pub fn new(shape: Shape, n: usize, random: &mut Random) -> Self {
         let first = Network::new(shape, n, random);
         let second = first.at_another_time(random);
         let weights = [(); 2].map(|()| (0..n).map(|_| 1.0 + random.real() / 2.0).collect());
@@ -93,7 +93,7 @@ impl Case {
 }
 
 /// Nanoseconds of the Rust's step, ours and our two pattern checks.
-fn measure(case: &Case) -> [f64; 3] {
+pub fn measure(case: &Case) -> [f64; 3] {
     let n = case.first.n;
     let graph = Graph::from_edges(n, Vec::new()).expect("no edge is refused");
     let rust = MagnusGraphHeatChernoff::new(Arc::new(graph), case.laplacians(), RHO_BAR_MAX, true)
@@ -118,7 +118,7 @@ fn measure(case: &Case) -> [f64; 3] {
 }
 
 /// Nanoseconds of the Rust's weighted step, ours, and the clones of two weight vectors, which are a part of the Rust's.
-fn measure_weighted(case: &Case) -> [f64; 3] {
+pub fn measure_weighted(case: &Case) -> [f64; 3] {
     let n = case.first.n;
     let [first, second] = case.weights.clone();
     let weights: WeightAtTime<f64> = Box::new(at_time(first, second));

@@ -48,7 +48,7 @@ fn laplacians(samples: [&Network; 3]) -> LaplacianAtTime<f64> {
 }
 
 /// Nanoseconds of the Rust's step and of ours.
-fn measure(samples: [&Network; 3]) -> [f64; 2] {
+pub fn measure(samples: [&Network; 3]) -> [f64; 2] {
     let n = samples[0].n;
     let graph = Graph::from_edges(n, Vec::new()).expect("no edge is refused");
     let rust = MagnusGraphHeat6thChernoff::new(Arc::new(graph), laplacians(samples), RHO_BAR_MAX, true)

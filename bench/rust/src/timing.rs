@@ -1,6 +1,6 @@
 //! Times of several functions on the same input, measured in turn.
 
-use std::time::Instant;
+use std::{cell::RefCell, time::Instant};
 
 const RUNS: usize = 401;
 /// What one run of a function should last, in nanoseconds.
@@ -26,10 +26,21 @@ fn sorted<const N: usize>(functions: &mut [&mut dyn FnMut(); N]) -> [Vec<f64>; N
             times[k].push(run(function, calls[k]));
         }
     }
-    times.map(|mut of_one| {
+    let sorted = times.map(|mut of_one| {
         of_one.sort_by(f64::total_cmp);
         of_one
-    })
+    });
+    LAST_MEDIANS.replace(sorted.iter().map(|of_one| of_one[RUNS / 2]).collect());
+    sorted
+}
+
+thread_local! {
+    static LAST_MEDIANS: RefCell<Vec<f64>> = const { RefCell::new(Vec::new()) };
+}
+
+/// The medians of the functions that were measured last, whatever was taken of them then.
+pub fn last_medians() -> Vec<f64> {
+    LAST_MEDIANS.with_borrow(Clone::clone)
 }
 
 /// Nanoseconds a call of each function: the median of many runs.
