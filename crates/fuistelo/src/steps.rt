@@ -1,5 +1,5 @@
 // The steps of order 4 and the step of order 6.
-ghost use Rattle.magnus_graph_helpers.specs.StepChecks.{sample};
+ghost use Rattle.magnus_graph_checks.specs.StepChecks.{sample};
 ghost use Rattle.magnus_graph.specs.StepOutcome.{stepInput, Stepped, forward, adjoint};
 ghost use Rattle.magnus6_graph.specs.StepOutcome.{step6Input, Stepped6};
 ghost use Rattle.answer.specs.Struct.{Tells};

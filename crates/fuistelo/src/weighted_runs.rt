@@ -1,5 +1,5 @@
 // The weighted adjoint run along a trajectory.
-ghost use Rattle.graph_traj.specs.Trajectory.{trajectory};
+ghost use Rattle.graph_traj_parts.specs.Trajectory.{trajectory};
 ghost use Rattle.varcoef_magnus_graph_adjoint.specs.WeightedRunOutcome.{weightedAdjointRun, Ran};
 ghost use Rattle.answer.specs.Struct.{Tells};
 use answer::Answer;

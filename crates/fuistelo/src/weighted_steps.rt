@@ -1,5 +1,5 @@
 // The steps of order 4 with node weights.
-ghost use Rattle.magnus_graph_helpers.specs.StepChecks.{sample};
+ghost use Rattle.magnus_graph_checks.specs.StepChecks.{sample};
 ghost use Rattle.magnus_graph.specs.StepOutcome.{forward, adjoint};
 ghost use Rattle.varcoef_magnus_graph.specs.StepOutcome.{stepInput, Stepped};
 ghost use Rattle.answer.specs.Struct.{Tells};
