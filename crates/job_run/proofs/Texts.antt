@@ -1,12 +1,9 @@
 -- The text of a job, from that of its answer. Assumes nothing.
-use mathlib.Core.Path.{_≡_, refl, sym, _∙_, subst⁻¹}
-use mathlib.Core.Logic.{inl}
+use mathlib.Core.Path.{_≡_, refl, sym, subst, subst⁻¹}
+use mathlib.Core.Logic.{_↔_, inl}
 use mathlib.Core.List.{List}
-use Prim.Native.Nat.{ℕ, _≤_}
-use lib.ListN.{length}
+use Prim.Native.Nat.{ℕ}
 use lib.Ieee.{Float}
-use Rattle.error.specs.Checks.{next}
-use Rattle.error.specs.Refusals.{Answers}
 use Rattle.error.specs.declared.Refusal.{Refusal}
 use Rattle.error.specs.declared.Checked.{Checked}
 use Rattle.error.specs.declared.Checked.the-variants.{Accepted, Refused}
@@ -69,6 +66,14 @@ module _ {before after : List ℕ} {n : ℕ} where
       let answer = accepted-then (jobStepAnswer (jobOf job)) (malformedFault job) (malformedFault job) (jobStepAnswer (jobOf job)) refl p refl in
       begins-with
       (λ t d. record { is = subst⁻¹ (λ (a : Checked). AnswerText a (jobStepOutput (jobOf job)) t) (sym answer) d }) b
+
+-- the texts of an accepted job
+pub accepted-text : (job text : List ℕ) → jobAnswer job ≡ Accepted → JobText job text ↔ DoneText (jobOutput job) text
+unfolding AnswerText
+accepted-text job text p = (
+  λ t. subst (λ (a : Checked). AnswerText a (jobOutput job) text) p (t .is),
+  λ d. record { is = subst⁻¹ (λ (a : Checked). AnswerText a (jobOutput job) text) p d },
+)
 
 -- a job that is not malformed is small
 pub small : (job : List ℕ) → malformedFault job ≡ Accepted → Small job

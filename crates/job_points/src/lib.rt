@@ -1,0 +1,1 @@
+// Document 01's job, computed from the definitions: proofs/Shown.antt.
