@@ -137,7 +137,7 @@ module _ (bytes : List ℕ) where
   unfoldable pub jobSignal : List Float
   jobSignal = reals bytes (jobField 7) jobNodes
 
--- a job that is not malformed, read
+-- what a job says
 pub record Job : Type 0 where
   pub nodes : ℕ
   pub starts : List ℕ
@@ -158,7 +158,7 @@ pub record Job : Type 0 where
   pub weighted : Bool
   pub adjoint : Bool
 
--- The job of the bytes. A field whose bit does not stand is not looked at: the step that is asked for does not take it.
+-- the job that bytes which are not malformed say. The step that it asks for takes no field whose bit does not stand.
 abbrev pub jobOf : List ℕ → Job
 jobOf bytes = record {
   nodes = jobNodes bytes;

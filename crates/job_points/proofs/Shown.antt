@@ -1,12 +1,14 @@
 -- Document 01's job, from its bytes: what the definitions give is what 01 says, forward and adjoint alike. Assumes nothing.
 use mathlib.Core.Path.{_≡_, refl, subst}
-use mathlib.Core.List.{List, [], _∷_}
+use mathlib.Core.List.{List, [], _∷_, _++_, map}
 use Prim.Native.Nat.{ℕ}
+use lib.ListN.{length, take, drop, replicate}
 use lib.Ieee.{Float, binary64, add, sub, mul, div, neg, ofBits, ofInt, lt, le, eq}
 use Rattle.arithmetic.specs.Vector.{tabulate}
 use Rattle.arithmetic.specs.Product.{sumTo, entries, rowSum}
 use Rattle.error.specs.Checks.{refuseIf, refuseUnequal, next, ifAccepted}
 use Rattle.error.specs.Lengths.{lengthFault}
+use Rattle.error.specs.Refusals.{count, answerOf}
 use Rattle.error.specs.declared.Checked.the-variants.{Accepted}
 use Rattle.graph.specs.First.{first, refuseFirst}
 use Rattle.graph.specs.PatternChecks.{sizeFault, rowStartCountFault, rowStartsFault, entryCountFault, columnFault, valueFault}
@@ -49,3 +51,41 @@ printed-forward = printed 0x0097 (given .0)
 
 pub printed-adjoint : {text : List ℕ} → JobText (exampleJob 0x0197) text → text ≡ exampleText
 printed-adjoint = printed 0x0197 (given .1)
+
+-- Malformed jobs, refused with their byte count: of none and of one byte; a byte too many and one too few; then, each as long as its map calls
+-- for, with bit 9, without bits 0, 1, 2, 4 and 7, with bit 3 and 6, with bit 3 and 8, of 65 nodes, of 513 entries.
+abbrev malformedJobs : List (List ℕ)
+malformedJobs =
+    []
+    ∷ (0x97 ∷ [])
+    ∷ (exampleJob 0x0097 ++ (0 ∷ []))
+    ∷ take 107 (exampleJob 0x0097)
+    ∷ exampleJob 0x0297
+    ∷ take 90 (exampleJob 0x0096)
+    ∷ take 76 (exampleJob 0x0095)
+    ∷ take 76 (exampleJob 0x0093)
+    ∷ take 100 (exampleJob 0x0087)
+    ∷ take 92 (exampleJob 0x0017)
+    ∷ (exampleJob 0x00DF ++ replicate 72 0)
+    ∷ (exampleJob 0x019F ++ replicate 32 0)
+    ∷ (numbers 2 (0x0097 ∷ 65 ∷ 0 ∷ []) ++ replicate 660 0)
+    ∷ (numbers 2 (0x0097 ∷ 0 ∷ 513 ∷ []) ++ replicate 9244 0)
+    ∷ []
+
+pub malformed-jobs : map (λ job. answerOf (malformedFault job)) malformedJobs
+    ≡ map (λ k. count 21 ∷ count k ∷ []) (0 ∷ 1 ∷ 109 ∷ 107 ∷ 108 ∷ 90 ∷ 76 ∷ 76 ∷ 100 ∷ 92 ∷ 180 ∷ 140 ∷ 666 ∷ 9250 ∷ [])
+unfolding bytes numbers exampleJob littleEndian word16 stands required allowed fieldSizes fieldStart jobMap jobNodes jobEntries jobField malformed malformedFault refuseIf
+malformed-jobs = refl
+
+-- the last ten are as long as their maps call for
+pub lengths-called-for : map (λ job. jobField job 9) (drop 4 malformedJobs) ≡ map length (drop 4 malformedJobs)
+unfolding bytes numbers exampleJob littleEndian word16 stands fieldSizes fieldStart jobMap jobNodes jobEntries jobField
+lengths-called-for = refl
+
+-- The largest jobs are not malformed: 64 nodes and 512 entries, of order 6 with a bound, and weighted adjoint with a bound.
+pub largest-jobs :
+    map malformedFault
+    ((numbers 2 (0x00BF ∷ 64 ∷ 512 ∷ []) ++ replicate 13970 0) ∷ (numbers 2 (0x01F7 ∷ 64 ∷ 512 ∷ []) ++ replicate 10906 0) ∷ [])
+    ≡ Accepted ∷ Accepted ∷ []
+unfolding bytes numbers littleEndian word16 stands required allowed fieldSizes fieldStart jobMap jobNodes jobEntries jobField malformed malformedFault refuseIf
+largest-jobs = refl
