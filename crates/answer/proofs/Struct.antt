@@ -79,20 +79,25 @@ module _ {fault : Checked} {returned : Answer} where
   pub told-fault : Tells returned (λ answer. Answers answer fault) → returned ≡ structOf fault []
   told-fault t = struct-of-fault [] (t .promised) (t .struct)
 
-  -- the check refuses, and so does the call
-  pub struct-of-refusal : {check : Checked} {r : Refusal} (given : List Carried)
-      → Answers check fault
-      → check ≡ Refused r
-      → returned ≡ refusalStruct r
-      → returned ≡ structOf fault given
-  struct-of-refusal given h p e = struct-of-fault given (answers (sym p ∙ fault-is h)) e
-
-  -- the check accepts, and the call gave x, which is the right y
-  pub struct-of-given : {check : Checked} {X : Type 0} (carried : X → Carried) {x y : X}
-      → Answers check fault
-      → check ≡ Accepted
-      → (fault ≡ Accepted → x ≡ y)
+  -- A call whose answer, of an enum A, holds a value where its check accepts: it gave x, which is the right y.
+  pub given-told : {A X : Type 0} (check : A → Checked) (give : X → A) (carried : X → Carried) {answer : A} {x y : X}
+      → check (give x) ≡ Accepted
+      → (give x ≡ give y → x ≡ y)
+      → Answers (check answer) fault
+      → (fault ≡ Accepted → answer ≡ give y)
+      → answer ≡ give x
       → returned ≡ laidOut 0 (carried x ∷ [])
       → returned ≡ structOf fault (carried y ∷ [])
-  struct-of-given {X = X} carried h p right e =
-      struct-of-fault _ (answers-accepted h p) (e ∙ ap (λ (z : X). laidOut 0 (carried z ∷ [])) (right (fault-accepted h p)))
+  given-told {X = X} check give carried accepts one h right p e =
+      let accepted = ap check p ∙ accepts in
+      let same = one (sym p ∙ right (fault-accepted h accepted)) in
+      struct-of-fault _ (answers-accepted h accepted) (e ∙ ap (λ (z : X). laidOut 0 (carried z ∷ [])) same)
+
+  -- The same call: it refused.
+  pub refusal-told : {A : Type 0} (check : A → Checked) (refuse : Refusal → A) (given : List Carried) {answer : A} {r : Refusal}
+      → check (refuse r) ≡ Refused r
+      → Answers (check answer) fault
+      → answer ≡ refuse r
+      → returned ≡ refusalStruct r
+      → returned ≡ structOf fault given
+  refusal-told check refuse given refuses h p e = struct-of-fault given (answers (sym (ap check p ∙ refuses) ∙ fault-is h)) e

@@ -1,34 +1,16 @@
 -- `fuistelo_segment_index` meets its contract: the struct carries the segment that the call gave, or is that of its refusal. Assumes nothing.
-use mathlib.Core.Path.{_≡_, ap}
-use mathlib.Core.List.{[], _∷_}
+use mathlib.Core.Path.{_≡_, refl}
 use Prim.Native.Nat.{ℕ}
 use borrow.Author.Needs.{needs}
-use Rattle.error.specs.declared.Refusal.{Refusal}
-use Rattle.error.specs.declared.Checked.{Checked}
-use Rattle.error.specs.declared.Checked.the-variants.{Accepted}
 use Rattle.error.specs.Refusals.{count}
-use Rattle.graph_traj.specs.declared.Located.{Located}
-use Rattle.graph_traj.specs.declared.Located.the-variants as located
-use Rattle.graph_traj.specs.LookupAnswer.{LookupAnswers, checkOf}
-use Rattle.answer.specs.declared.Answer.{Answer}
-use Rattle.answer.specs.Struct.{laidOut, refusalStruct, structOf}
-use Rattle.answer.proofs.Struct.{struct-of-given, struct-of-refusal}
+use Rattle.graph_traj.specs.declared.Located.the-variants.{Segment, Refused}
+use Rattle.graph_traj.specs.LookupAnswer.{checkOf}
+use Rattle.answer.proofs.Struct.{given-told, refusal-told}
 use Rattle.fuistelo.proofs.runs.fuistelo_segment_index.Statement.{statement}
 use Rattle.fuistelo.proofs.runs.fuistelo_segment_index.Tie as tie
 
-module _ {answer : Located} {fault : Checked} {segment : ℕ} {returned : Answer} (h : LookupAnswers answer fault segment) where
-  -- the call gave x, which is the right segment
-  given-told : {x : ℕ} → answer ≡ located.Segment x → returned ≡ laidOut 0 (count x ∷ []) → returned ≡ structOf fault (count segment ∷ [])
-  unfolding checkOf
-  given-told {x} p e = struct-of-given count (h .refusal) (ap checkOf p) right e
-    where
-      right : fault ≡ Accepted → x ≡ segment
-      right q = let g = h .given q in cc
-
-  -- the call refused
-  refusal-told : {r : Refusal} → answer ≡ located.Refused r → returned ≡ refusalStruct r → returned ≡ structOf fault (count segment ∷ [])
-  unfolding checkOf
-  refusal-told p e = struct-of-refusal _ (h .refusal) (ap checkOf p) e
+one-segment : {x y : ℕ} → Segment x ≡ Segment y → x ≡ y
+one-segment p = cc
 
 segment-index-requires : tie.Need-segment-index-requires
 segment-index-requires c κs = search needs
@@ -46,10 +28,21 @@ refused-requires : tie.Need-refused-requires
 refused-requires c κs = search needs
 
 returns : tie.Need-returns
-returns c = given-told (c .before .before .before .before .segment-index .ensures) (c .before .before .segment .given .1) (c .laid-out .ensures)
+unfolding checkOf
+returns c =
+    given-told checkOf Segment count refl one-segment
+    (c .before .before .before .before .segment-index .ensures .refusal)
+    (c .before .before .before .before .segment-index .ensures .given)
+    (c .before .before .segment .given .1)
+    (c .laid-out .ensures)
 
 returns-2 : tie.Need-returns-2
-returns-2 c = refusal-told (c .before .before .before .before .segment-index .ensures) (c .before .before .refusal .given .1) (c .refused .ensures)
+unfolding checkOf
+returns-2 c =
+    refusal-told checkOf Refused _ refl
+    (c .before .before .before .before .segment-index .ensures .refusal)
+    (c .before .before .refusal .given .1)
+    (c .refused .ensures)
 
 pub fuistelo-segment-index-spec : {M : Type 1} → statement M
 fuistelo-segment-index-spec =
