@@ -2,9 +2,12 @@
 
 use crate::{
     case::{Call, Case, Network},
-    exported::{self, Answer},
     memory::{Lent, Memory},
+    raw::{self, Answer},
 };
+
+#[link(name = "fuistelo", kind = "static")]
+extern "C" {}
 
 /// What a call came to, with every slice afterwards.
 #[derive(Clone, Debug)]
@@ -95,7 +98,7 @@ fn same_bits(one: &[f64], other: &[f64]) -> bool {
 macro_rules! call {
     (@ $name:ident ($($done:expr,)*)) => {
         // SAFETY: each pointer and length is that of a lent slice, and no two overlap.
-        unsafe { exported::$name($($done),*) }
+        unsafe { raw::$name($($done),*) }
     };
     (@ $name:ident ($($done:expr,)*) [$slice:expr], $($rest:tt)*) => {
         call!(@ $name ($($done,)* $slice.at, $slice.len,) $($rest)*)
@@ -224,7 +227,7 @@ fn run(call: Call, case: &Case, lent: &LentCase) -> Answer {
 /// The root as an answer with one real.
 fn sqrt(x: f64) -> Answer {
     // SAFETY: the call takes and gives one real.
-    let first = unsafe { exported::fuistelo_sqrt(x) };
+    let first = unsafe { raw::fuistelo_sqrt(x) };
     Answer { number: 0, counts: 0, count: 0, reals: 1, first, second: 0.0 }
 }
 

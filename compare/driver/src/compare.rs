@@ -3,8 +3,8 @@
 use crate::{
     calls::Outcome,
     case::{Call, Case},
-    exported::Answer,
     published::{self, Difference, Reply},
+    raw::Answer,
     rules::{Refusal, Rule, Values},
 };
 

@@ -4,7 +4,6 @@
 mod calls;
 mod case;
 mod compare;
-mod exported;
 mod faults;
 mod generate;
 mod generate_runs;
@@ -16,6 +15,9 @@ mod rules;
 mod run_rules;
 mod selftest;
 mod summary;
+// The declarations of rust/fuistelo, which tests/declarations compares with the Rattle functions.
+#[path = "../../fuistelo/src/raw.rs"]
+mod raw;
 
 use std::{
     process::exit,

@@ -6,9 +6,10 @@ use crate::{
     calls::{changes_seen, outcome, Outcome},
     case::{Call, Case},
     compare::compare,
-    exported, generate,
+    generate,
     memory::{Memory, Place},
     random::Random,
+    raw,
     rules::{rule, Rule},
 };
 
@@ -41,7 +42,7 @@ pub fn touch(place: Place, what: &str) {
         _ => {}
     }
     // SAFETY: of "none" only; the others are there to be caught.
-    let answer = unsafe { exported::fuistelo_copy_from(dst.at, dst.len, src.at, src.len) };
+    let answer = unsafe { raw::fuistelo_copy_from(dst.at, dst.len, src.at, src.len) };
     println!("answer {}", answer.number);
 }
 
