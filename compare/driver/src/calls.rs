@@ -45,18 +45,18 @@ impl LentCase {
     fn of(case: &Case, memory: &mut Memory) -> Self {
         let mut network = |of: &Network| LentNetwork {
             n: of.n,
-            row_ptr: memory.lend(&of.row_ptr),
-            col_idx: memory.lend(&of.col_idx),
-            vals: memory.lend(&of.vals),
+            row_ptr: memory.lend_read(&of.row_ptr),
+            col_idx: memory.lend_read(&of.col_idx),
+            vals: memory.lend_read(&of.vals),
         };
         Self {
             samples: case.samples.iter().map(&mut network).collect(),
-            breakpoints: memory.lend(&case.breakpoints),
-            starts: memory.lend(&case.starts),
-            ends: memory.lend(&case.ends),
-            laws: memory.lend(&case.laws),
-            weights: [memory.lend(&case.weights[0]), memory.lend(&case.weights[1])],
-            src: memory.lend(&case.src),
+            breakpoints: memory.lend_read(&case.breakpoints),
+            starts: memory.lend_read(&case.starts),
+            ends: memory.lend_read(&case.ends),
+            laws: memory.lend_read(&case.laws),
+            weights: [memory.lend_read(&case.weights[0]), memory.lend_read(&case.weights[1])],
+            src: memory.lend_read(&case.src),
             dst: memory.lend(&case.dst),
             work: memory.lend(&case.work),
         }

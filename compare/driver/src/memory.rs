@@ -1,5 +1,5 @@
 //! Memory that slices are lent in: the heap, where each slice is a block of its own, or a place at the edge of a page that must
-//! not be touched, so that reading or writing past the slice ends the process.
+//! not be touched, so that reading or writing past the slice ends the process, and so does writing to one that is only read.
 
 use std::alloc::{alloc, dealloc, Layout};
 
@@ -39,6 +39,7 @@ extern "C" {
 }
 
 const PROT_NONE: i32 = 0;
+const PROT_READ: i32 = 1;
 const PROT_READ_WRITE: i32 = 3;
 const MAP_PRIVATE_ANONYMOUS_NORESERVE: i32 = 0x4022;
 
@@ -50,9 +51,16 @@ fn guarded() -> *mut u8 {
         let all = mmap(std::ptr::null_mut(), ROOM + 2 * PAGE, PROT_NONE, flags, -1, 0);
         assert!(all as isize != -1, "no memory for guarded slices");
         let middle = all.add(PAGE);
-        assert_eq!(mprotect(middle, ROOM, PROT_READ_WRITE), 0, "no memory for guarded slices");
+        protect(middle, PROT_READ_WRITE);
         middle
     }
+}
+
+/// What may be done from now on with the room between two guards.
+fn protect(room: *mut u8, protection: i32) {
+    // SAFETY: `guarded` made the room, and slices in it are used as the protection allows, or the process is to end.
+    let status = unsafe { mprotect(room, ROOM, protection) };
+    assert_eq!(status, 0, "no protection for guarded slices");
 }
 
 /// Lends slices, and takes them all back at once.
@@ -61,11 +69,13 @@ pub struct Memory {
     blocks: Vec<(*mut u8, Layout)>,
     guarded: Vec<*mut u8>,
     lent: usize,
+    /// Rooms whose slice may only be read.
+    read_only: Vec<*mut u8>,
 }
 
 impl Memory {
     pub fn new(place: Place) -> Self {
-        Self { place, blocks: Vec::new(), guarded: Vec::new(), lent: 0 }
+        Self { place, blocks: Vec::new(), guarded: Vec::new(), lent: 0, read_only: Vec::new() }
     }
 
     /// A copy of the slice.
@@ -80,6 +90,17 @@ impl Memory {
         // SAFETY: the place has the slice's size and alignment, and nothing else lies there.
         unsafe { at.copy_from_nonoverlapping(slice.as_ptr(), slice.len()) };
         Lent { at, len: slice.len() }
+    }
+
+    /// A copy of the slice that may only be read: where there are guards, writing to it ends the process.
+    pub fn lend_read<T: Copy>(&mut self, slice: &[T]) -> Lent<T> {
+        let lent = self.lend(slice);
+        if self.place != Place::Heap && !slice.is_empty() {
+            let room = self.guarded[self.lent - 1];
+            protect(room, PROT_READ);
+            self.read_only.push(room);
+        }
+        lent
     }
 
     fn block(&mut self, layout: Layout) -> *mut u8 {
@@ -105,6 +126,9 @@ impl Memory {
     /// Ends the use of all slices lent so far.
     pub fn take_back(&mut self) {
         self.lent = 0;
+        for room in self.read_only.drain(..) {
+            protect(room, PROT_READ_WRITE);
+        }
         for (at, layout) in self.blocks.drain(..) {
             // SAFETY: `block` allocated it with this layout.
             unsafe { dealloc(at, layout) };

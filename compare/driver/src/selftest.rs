@@ -24,11 +24,12 @@ pub fn place_of(name: &str) -> Option<Place> {
     }
 }
 
-/// A copy of four reals in which `what` ("read", "write" or "none") touches one element that was not lent: the one behind the
-/// slice, or before it where the guard lies there.
+/// A copy of four reals that is right (`what` is "none"), writes to a slice that may only be read ("read-only"), or reads or writes
+/// ("read", "write") one element that was not lent: the one behind the slice, or before it where the guard lies there.
 pub fn touch(place: Place, what: &str) {
     let mut memory = Memory::new(place);
-    let (mut src, mut dst) = (memory.lend(&[1.0; 4]), memory.lend(&[2.0; 4]));
+    let mut src = memory.lend_read(&[1.0; 4]);
+    let mut dst = if what == "read-only" { memory.lend_read(&[2.0; 4]) } else { memory.lend(&[2.0; 4]) };
     let slip = |at: &mut *mut f64| {
         if place == Place::BehindGuard {
             *at = at.wrapping_sub(1);
@@ -46,7 +47,7 @@ pub fn touch(place: Place, what: &str) {
     println!("answer {}", answer.number);
 }
 
-/// The signal that ended a process in which one element was touched that was not lent.
+/// The signal that ended a process in which a slice was touched wrongly.
 fn signal_of(place: &str, what: &str) -> Option<i32> {
     let this = std::env::current_exe().expect("the path of this program");
     let child = Command::new(this).args(["--touch", place, what]).output().expect("a child process");
@@ -58,11 +59,9 @@ fn signal_of(place: &str, what: &str) -> Option<i32> {
 
 fn guards() -> Result<(), String> {
     for place in ["before-guard", "behind-guard"] {
-        for (what, expected) in
-            [("none", None), ("read", Some(SEGMENTATION_FAULT)), ("write", Some(SEGMENTATION_FAULT))]
-        {
-            let signal = signal_of(place, what);
-            println!("slices {place}, touched beyond: {what}; signal {signal:?}");
+        for what in ["none", "read", "write", "read-only"] {
+            let (signal, expected) = (signal_of(place, what), (what != "none").then_some(SEGMENTATION_FAULT));
+            println!("slices {place}, touched wrongly: {what}; signal {signal:?}");
             if signal != expected {
                 return Err(format!("expected signal {expected:?}"));
             }
