@@ -10,13 +10,13 @@ use Rattle.error.specs.Checks.{refuseIf, refuseUnequal, next, ifAccepted}
 use Rattle.error.specs.Lengths.{lengthFault}
 use Rattle.error.specs.Refusals.{count, answerOf}
 use Rattle.error.specs.declared.Checked.the-variants.{Accepted}
-use Rattle.graph.specs.First.{first, refuseFirst}
-use Rattle.graph.specs.PatternChecks.{sizeFault, rowStartCountFault, rowStartsFault, entryCountFault, columnFault, valueFault}
-use Rattle.graph.specs.PatternChecks.{shapeFault, patternFault, csrFault}
+use Rattle.graph_checks.specs.First.{first, refuseFirst}
+use Rattle.graph_checks.specs.PatternChecks.{sizeFault, rowStartCountFault, rowStartsFault, entryCountFault, columnFault, valueFault}
+use Rattle.graph_checks.specs.PatternChecks.{shapeFault, patternFault, csrFault}
 use Rattle.magnus.specs.Coefficients.{factorial, reciprocalFactorial}
 use Rattle.magnus.specs.Operators.{omega4, power, taylor}
-use Rattle.magnus_graph_helpers.specs.StepChecks.{notPositive, boundFault, tauFault, radiusFault, roomFault, sampleFault, samplesFault}
-use Rattle.magnus_graph_helpers.specs.StepChecks.{stepLengthFault, lengthsFault, stepFault}
+use Rattle.magnus_graph_checks.specs.StepChecks.{notPositive, boundFault, tauFault, radiusFault, roomFault, sampleFault, samplesFault}
+use Rattle.magnus_graph_checks.specs.StepChecks.{stepLengthFault, lengthsFault, stepFault}
 use Rattle.little_endian.specs.LittleEndian.{littleEndian}
 use Rattle.job_format.specs.JobFormat.{word16, real, words16, reals, stands, required, allowed, fieldSizes, fieldStart}
 use Rattle.job_format.specs.JobFormat.{jobMap, jobNodes, jobEntries, jobHas, jobField, malformed, malformedFault, jobRowStarts}

@@ -20,6 +20,12 @@ use Rattle.graph_traj_lists.specs.ListChecks.{lawsFault, countsFault, listsFaul
 use Rattle.graph_traj_parts.specs.TrajectoryChecks.{adjointTrajectoryFault}
 use Rattle.graph_traj_checks.specs.RunChecks.{signalsFault}
 use Rattle.graph_traj_adjoint_checks.specs.AdjointRunChecks.{adjointRunFault}
+use Rattle.job_format.specs.JobFormat.{word16, real as wordReal, words16, reals as wordReals, stands, required, allowed, fieldSizes}
+use Rattle.job_format.specs.JobFormat.{fieldStart, jobMap, jobNodes, jobEntries, jobHas, jobField, malformed, malformedFault}
+use Rattle.job_format.specs.JobFormat.{jobRowStarts, jobColumns, jobValues, jobTau, jobBound, jobSignal}
+use Rattle.job_points.specs.ExampleJob.{bytes, numbers, exampleJob}
+use Rattle.job_step.specs.JobOutcome.{jobSign, jobStep, jobStepAnswer, jobStepOutput, jobAnswer, jobOutput}
+use Rattle.little_endian.specs.LittleEndian.{littleEndian}
 use Rattle.magnus.specs.Coefficients.{factorial, reciprocalFactorial}
 use Rattle.magnus.specs.Operators.{weighted, omega4, power, taylor}
 use Rattle.magnus.specs.Run.{runAlong}
@@ -34,9 +40,9 @@ use Rattle.magnus_graph_traj.specs.RunSteps.{firstFault}
 use Rattle.scratch.specs.Parts.{put}
 use Rattle.square_root.specs.SquareRoot.{squareRoot}
 use Rattle.points.specs.Points.{Point, points, roots, products, steps, trajectories, x64, reals, answerOr, leaves, root}
-use Rattle.points.specs.Points.{noNodes, twoEntriesBefore, productOf, diagonal, swap, commutator, stepOf, stepOfTau, twoNodes, jobStep}
+use Rattle.points.specs.Points.{noNodes, twoEntriesBefore, productOf, diagonal, swap, commutator, stepOf, stepOfTau, jobOf}
 use Rattle.points.specs.Points.{weightedStep, weightedOf, breakpoints, lookup, inSegment, outside, oneNode, noSteps}
 
 pub points-hold : map (λ p. p .computed) points ≡ map (λ p. p .expected) points
-unfolding points roots products steps trajectories x64 reals answerOr leaves root noNodes twoEntriesBefore productOf diagonal swap commutator stepOf stepOfTau twoNodes jobStep weightedStep weightedOf breakpoints lookup inSegment outside oneNode noSteps add sub mul div neg ofBits ofInt lt le eq tabulate sumTo entries rowSum refuseIf refuseUnequal next ifAccepted lengthFault first refuseFirst sizeFault rowStartCountFault rowStartsFault entryCountFault columnFault valueFault shapeFault patternFault csrFault productFault greatest segmentAt segmentCountFault oneSegmentFault poolCountFault notRisingAt breakpointsFault firstBreakpointFault lookupTimeFault lawsFault lookupFault countsFault listsFault adjointTrajectoryFault signalsFault adjointRunFault factorial reciprocalFactorial weighted omega4 power taylor runAlong notPositive boundFault noNodesFault tauFault radiusFault weightedBound weightsLengthFault roomFault sampleWeightsFault sampleFault samplesFault weightedBoundsFault stepLengthFault lengthsFault weightFault stepFault weightedStepFault firstFault put squareRoot
+unfolding points roots products steps trajectories x64 reals answerOr leaves root noNodes twoEntriesBefore productOf diagonal swap commutator stepOf stepOfTau jobOf weightedStep weightedOf breakpoints lookup inSegment outside oneNode noSteps add sub mul div neg ofBits ofInt lt le eq tabulate sumTo entries rowSum refuseIf refuseUnequal next ifAccepted lengthFault first refuseFirst sizeFault rowStartCountFault rowStartsFault entryCountFault columnFault valueFault shapeFault patternFault csrFault productFault greatest segmentAt segmentCountFault oneSegmentFault poolCountFault notRisingAt breakpointsFault firstBreakpointFault lookupTimeFault lawsFault lookupFault countsFault listsFault adjointTrajectoryFault signalsFault adjointRunFault factorial reciprocalFactorial weighted omega4 power taylor runAlong notPositive boundFault noNodesFault tauFault radiusFault weightedBound weightsLengthFault roomFault sampleWeightsFault sampleFault samplesFault weightedBoundsFault stepLengthFault lengthsFault weightFault stepFault weightedStepFault firstFault put squareRoot littleEndian word16 wordReal words16 wordReals stands required allowed fieldSizes fieldStart jobMap jobNodes jobEntries jobHas jobField malformed malformedFault jobRowStarts jobColumns jobValues jobTau jobBound jobSignal bytes numbers exampleJob jobSign jobStep jobStepAnswer jobStepOutput jobAnswer jobOutput
 points-hold = refl

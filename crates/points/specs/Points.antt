@@ -13,10 +13,11 @@ use Rattle.graph_rows.specs.RowProduct.{rowProduct64}
 use Rattle.graph_traj.specs.Lookup.{segmentAt}
 use Rattle.graph_traj_parts.specs.Trajectory.{Trajectory, trajectory}
 use Rattle.graph_traj_breakpoints.specs.LookupChecks.{lookupFault}
+use Rattle.job_points.specs.ExampleJob.{exampleJob}
+use Rattle.job_step.specs.JobOutcome.{jobAnswer, jobOutput}
 use Rattle.magnus_graph_checks.specs.StepChecks.{Sample, sample}
 use Rattle.magnus_graph.specs.StepOutcome.{StepInput, stepInput, forward, adjoint, stepAnswer, stepOutput, stepWork}
 use Rattle.magnus_graph_traj.specs.RunOutcome.{adjointRun, runAnswer, runOutput, runWork}
-use Rattle.scratch.specs.Parts.{zeros}
 use Rattle.square_root.specs.SquareRoot.{squareRoot}
 use Rattle.varcoef_magnus_graph.specs.StepOutcome as Weighted
 
@@ -31,12 +32,9 @@ x64 bits = ofBits binary64 bits
 unfoldable pub reals : List ℕ → List Float
 reals bits = map x64 bits
 
--- 1 and -1
+-- the bits of 1
 abbrev one : ℕ
 one = 0x3FF0_0000_0000_0000
-
-abbrev minusOne : ℕ
-minusOne = 0xBFF0_0000_0000_0000
 
 -- an answer as document 01's table has it, the number and the values of a refusal; where the call is accepted, what it gives
 unfoldable pub answerOr : Checked → List Carried → List Carried
@@ -137,13 +135,9 @@ stepOf sign s = leaves (stepAnswer sign s) (stepOutput sign s ++ stepWork sign s
 unfoldable pub stepOfTau : ℕ → StepInput
 stepOfTau tau = stepInput noNodes noNodes (x64 tau) (x64 one) true [] [] (reals (one ∷ []))
 
--- the network of 01's job: two nodes, values 1 -1 -1 1
-unfoldable pub twoNodes : Sample
-twoNodes = sample 2 (0 ∷ 2 ∷ 4 ∷ []) (0 ∷ 1 ∷ 0 ∷ 1 ∷ []) (reals (one ∷ minusOne ∷ minusOne ∷ one ∷ []))
-
--- its step: τ 1, signal 1 0
-unfoldable pub jobStep : StepInput
-jobStep = stepInput twoNodes twoNodes (x64 one) (x64 one) false (reals (one ∷ 0 ∷ [])) (reals (0 ∷ 0 ∷ [])) (zeros 10)
+-- what 01's job with a map answers, and its values
+unfoldable pub jobOf : ℕ → List Carried
+jobOf map = leaves (jobAnswer (exampleJob map)) (jobOutput (exampleJob map))
 
 -- a weighted step of one node that is linked to nothing, or of none, with a weight for each sample
 unfoldable pub weightedStep : Sample → List ℕ → List ℕ → List ℕ → Weighted.StepInput
@@ -162,8 +156,8 @@ steps =
     ∷ (stepOf forward (stepOfTau 0x3FF9_21FB_5444_2D17) ⇒ real (x64 one) ∷ [])
     ∷ (stepOf adjoint (stepOfTau 0x3FF9_21FB_5444_2D17) ⇒ real (x64 one) ∷ [])
     -- ★ the job above, forward and adjoint alike
-    ∷ (map real (stepOutput forward jobStep) ⇒ map real (reals (0x3FE5_5555_5555_5556 ∷ 0x3FD5_5555_5555_5555 ∷ [])))
-    ∷ (map real (stepOutput adjoint jobStep) ⇒ map real (reals (0x3FE5_5555_5555_5556 ∷ 0x3FD5_5555_5555_5555 ∷ [])))
+    ∷ (jobOf 0x0097 ⇒ map real (reals (0x3FE5_5555_5555_5556 ∷ 0x3FD5_5555_5555_5555 ∷ [])))
+    ∷ (jobOf 0x0197 ⇒ map real (reals (0x3FE5_5555_5555_5556 ∷ 0x3FD5_5555_5555_5555 ∷ [])))
     -- ★ weighted: 12
     ∷ (weightedOf (weightedStep noNodes [] [] (one ∷ [])) ⇒ count 12 ∷ count 0 ∷ real (x64 one) ∷ [])
     -- ★ weight -0 gives 11
