@@ -1,4 +1,3 @@
-pub mod RunStep
 pub mod StepsTaken
 pub mod Walk
 pub mod SampledFormat

@@ -1,4 +1,3 @@
 pub mod RunSteps
-pub mod RunStepTaken
 pub mod StepsTaken
 pub mod RunOutcome

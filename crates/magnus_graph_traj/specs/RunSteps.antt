@@ -5,28 +5,25 @@ use mathlib.Core.Bool.{Bool, _&&_}
 use mathlib.Core.List.{List, [], _∷_, _++_}
 use Prim.Native.Nat.{ℕ, zero, suc, _+_, _*_}
 use lib.ListN.{length, getD}
-use lib.Ieee.{Float, nan, binary64}
+use lib.Ieee.{Float, binary64}
 use Rattle.rounding.specs.StepLength.{stepLength}
 use Rattle.arithmetic.specs.Vector.{tabulate}
 use Rattle.arithmetic.specs.Arithmetic.{ieee}
 use Rattle.scratch.specs.Parts.{part}
 use Rattle.error.specs.Checks.{next}
-use Rattle.error.specs.declared.Refusal.the-variants.{SampledValue}
 use Rattle.error.specs.declared.Checked.{Checked}
 use Rattle.error.specs.declared.Checked.the-variants.{Accepted}
-use Rattle.graph_checks.specs.First.{refuseFirst}
-use Rattle.graph_checks.specs.PatternChecks.{notFiniteAt}
-use Rattle.graph_rows.specs.RowProduct.{rowProduct64}
+use Rattle.graph.specs.RowProduct.{rowProduct64}
 use Rattle.magnus.specs.Operators.{plainSum}
 use Rattle.magnus.specs.Coefficients.{reciprocalFactorial}
 use Rattle.magnus.specs.Agree.{agree}
 use Rattle.magnus.specs.Formed.{FormedOperator, formedProduct, formedStep4}
-use Rattle.magnus_graph.specs.Omega4.{sqrt3Over12}
-use Rattle.magnus_graph_step.specs.Omega4.{expOmega4}
-use Rattle.graph_traj_segment.specs.Laws.{fraction, valuesAt}
-use Rattle.graph_traj_breakpoints.specs.Breakpoints.{breakpoint}
-use Rattle.graph_traj_segment.specs.Times.{c1, c2, stepStart, adjointStepStart, sampleTime}
-use Rattle.graph_traj_parts.specs.Trajectory.{Trajectory}
+use Rattle.magnus_graph.specs.Omega4.{sqrt3Over12, expOmega4}
+use Rattle.graph_traj.specs.Laws.{fraction, valuesAt}
+use Rattle.graph_traj.specs.Lookup.{breakpoint}
+use Rattle.graph_traj.specs.Times.{c1, c2, stepStart, adjointStepStart, sampleTime}
+use Rattle.graph_traj.specs.Trajectory.{Trajectory}
+use Rattle.graph_traj_samples.specs.Sampled.{sampledFault}
 use Rattle.graph_traj_checks.specs.RunChecks.{tauOf}
 
 -- ---- which steps
@@ -68,10 +65,6 @@ adjointCourse τ N = record {
 }
 
 -- ---- what a step does
-
--- row 20: the first sampled value that is not finite
-unfoldable pub sampledFault : List Float → Checked
-sampledFault values = refuseFirst (notFiniteAt values) (length values) (λ k. SampledValue (getD values k nan))
 
 module _ (t : Trajectory) (course : Course) where
   -- how far the sample at the Gauss node c of a step is on its way through the segment

@@ -10,7 +10,6 @@ use scratch::kernel::clear;
 use scratch::kernel::load;
 use scratch::kernel::store;
 
-pub mod kernel;
 mod run;
 
 // The forward run: dst becomes src after `steps` steps in each segment. Refused before the first step by rows 6, 1 to 4, 13, 14, 15, 19,

@@ -1,0 +1,24 @@
+-- Two vectors in one list, as pairs of the elements at each place: so that a walk over the pattern that two samples share reads
+-- both samples' values side by side. The laws stand in proofs/Pairs.antt. Assumes nothing.
+use mathlib.Core.List.{List}
+use Prim.Native.Nat.{ℕ, zero, suc, _+_, _*_}
+use Rattle.arithmetic.specs.Vector.{tabulate}
+use Rattle.arithmetic.specs.Arithmetic.{Arithmetic, at}
+
+-- f 0, g 0, f 1, g 1, ..: what stands at each place of such a list
+unfoldable pub alternate : {K : Type 0} → (ℕ → K) → (ℕ → K) → ℕ → K
+alternate f g zero = f 0
+alternate f g (suc zero) = g 0
+alternate f g (suc (suc j)) = alternate (λ i. f (suc i)) (λ i. g (suc i)) j
+
+-- n pairs, of f i and g i
+abbrev pub pairs : {K : Type 0} → ℕ → (ℕ → K) → (ℕ → K) → List K
+pairs n f g = tabulate (alternate f g) (2 * n)
+
+module _ {K : Type 0} (A : Arithmetic K) where
+  -- the vector of the first elements of n pairs, and that of the second ones
+  abbrev pub firsts : ℕ → List K → List K
+  firsts n x = tabulate (λ i. at A x (2 * i)) n
+
+  abbrev pub seconds : ℕ → List K → List K
+  seconds n x = tabulate (λ i. at A x (2 * i + 1)) n
