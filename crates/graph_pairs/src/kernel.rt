@@ -6,8 +6,8 @@ ghost use lib.ListN.{length};
 ghost use lib.Ieee.{binary64};
 ghost use Rattle.arithmetic.specs.Arithmetic.{ieee};
 ghost use Rattle.scratch.specs.Parts.{part, put};
-ghost use Rattle.graph.specs.Pattern.{Pattern};
-ghost use Rattle.graph.specs.RowProduct.{rowSum64, rowProduct64};
+ghost use Rattle.graph_checks.specs.Pattern.{Pattern};
+ghost use Rattle.graph_rows.specs.RowProduct.{rowSum64, rowProduct64};
 ghost use Rattle.magnus_graph_helpers.specs.Terms.{omega4Sum};
 ghost use Rattle.graph_pairs.specs.Pairs.{pairs, firsts, seconds};
 

@@ -18,12 +18,12 @@ use Rattle.error.specs.Checks.{next}
 use Rattle.error.specs.declared.Refusal.the-variants.{SampledValue}
 use Rattle.error.specs.declared.Checked.the-variants.{Accepted, Refused}
 use Rattle.error.proofs.Checks.{accepted-then}
-use Rattle.graph.specs.PatternChecks.{notFiniteAt}
-use Rattle.graph.proofs.First.{Passed, passed-more, passed-found, refuses-first, accepts-none}
-use Rattle.graph.proofs.WorkSlice.{lent-part}
+use Rattle.graph_checks.specs.PatternChecks.{notFiniteAt}
+use Rattle.graph_checks.proofs.First.{Passed, passed-more, passed-found, refuses-first, accepts-none}
+use Rattle.graph_scratch.proofs.WorkSlice.{lent-part}
 use Rattle.graph_pairs.specs.Pairs.{alternate, firsts, seconds}
 use Rattle.graph_pairs.proofs.Pairs.{alternate-first, alternate-second, firsts-of-pairs, seconds-of-pairs}
-use Rattle.graph_traj.specs.Laws.{lawValue, lawValues}
+use Rattle.graph_traj_segment.specs.Laws.{lawValue, lawValues}
 use Rattle.graph_traj_samples.specs.Sampled.{sampledFault, lawPairs}
 
 -- row 20 refuses none of m finite values

@@ -6,10 +6,10 @@ use lib.Ieee.{Float, nan, binary64}
 use Rattle.arithmetic.specs.Arithmetic.{ieee, at}
 use Rattle.error.specs.declared.Refusal.the-variants.{SampledValue}
 use Rattle.error.specs.declared.Checked.{Checked}
-use Rattle.graph.specs.First.{refuseFirst}
-use Rattle.graph.specs.PatternChecks.{notFiniteAt}
+use Rattle.graph_checks.specs.First.{refuseFirst}
+use Rattle.graph_checks.specs.PatternChecks.{notFiniteAt}
 use Rattle.graph_pairs.specs.Pairs.{pairs}
-use Rattle.graph_traj.specs.Laws.{lawValue}
+use Rattle.graph_traj_segment.specs.Laws.{lawValue}
 
 -- row 20: the first sampled value that is not finite
 unfoldable pub sampledFault : List Float → Checked

@@ -5,11 +5,11 @@ ghost use Prim.Native.Nat.{_+_, _*_, _≤_};
 ghost use lib.ListN.{length};
 ghost use Rattle.scratch.specs.Parts.{part, put};
 ghost use Rattle.error.specs.Checks.{next};
-ghost use Rattle.graph_traj.specs.Laws.{lawValues};
+ghost use Rattle.graph_traj_segment.specs.Laws.{lawValues};
 ghost use Rattle.graph_traj_samples.specs.Sampled.{sampledFault, lawPairs};
 use error::Checked;
 use error::Refusal;
-use graph_traj::kernel::law_value;
+use graph_traj_segment::kernel::law_value;
 
 // The m pairs at `at` become the values of law 2 at two fractions of the way through segment k.
 pub fn sample_pairs(

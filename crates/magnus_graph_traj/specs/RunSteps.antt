@@ -13,16 +13,17 @@ use Rattle.scratch.specs.Parts.{part}
 use Rattle.error.specs.Checks.{next}
 use Rattle.error.specs.declared.Checked.{Checked}
 use Rattle.error.specs.declared.Checked.the-variants.{Accepted}
-use Rattle.graph.specs.RowProduct.{rowProduct64}
+use Rattle.graph_rows.specs.RowProduct.{rowProduct64}
 use Rattle.magnus.specs.Operators.{plainSum}
 use Rattle.magnus.specs.Coefficients.{reciprocalFactorial}
 use Rattle.magnus.specs.Agree.{agree}
 use Rattle.magnus.specs.Formed.{FormedOperator, formedProduct, formedStep4}
-use Rattle.magnus_graph.specs.Omega4.{sqrt3Over12, expOmega4}
-use Rattle.graph_traj.specs.Laws.{fraction, valuesAt}
-use Rattle.graph_traj.specs.Lookup.{breakpoint}
-use Rattle.graph_traj.specs.Times.{c1, c2, stepStart, adjointStepStart, sampleTime}
-use Rattle.graph_traj.specs.Trajectory.{Trajectory}
+use Rattle.magnus_graph.specs.Omega4.{sqrt3Over12}
+use Rattle.magnus_graph_step.specs.Omega4.{expOmega4}
+use Rattle.graph_traj_segment.specs.Laws.{fraction, valuesAt}
+use Rattle.graph_traj_breakpoints.specs.Breakpoints.{breakpoint}
+use Rattle.graph_traj_segment.specs.Times.{c1, c2, stepStart, adjointStepStart, sampleTime}
+use Rattle.graph_traj_parts.specs.Trajectory.{Trajectory}
 use Rattle.graph_traj_samples.specs.Sampled.{sampledFault}
 use Rattle.graph_traj_checks.specs.RunChecks.{tauOf}
 

@@ -2,13 +2,13 @@
 // vector at 0 of the work slice. A loop stops at the first step that refuses.
 ghost use Prim.Native.Nat.{_≤_, _<_};
 ghost use lib.ListN.{length};
-ghost use Rattle.graph_traj.specs.Trajectory.{trajectory, AcceptedTrajectory};
+ghost use Rattle.graph_traj_parts.specs.Trajectory.{trajectory, AcceptedTrajectory};
 ghost use Rattle.graph_traj_checks.specs.RunChecks.{runNeed};
 ghost use Rattle.magnus_graph.specs.StepOutcome.{forward, adjoint};
 ghost use Rattle.magnus_graph_traj.specs.RunSteps.{segmentSteps, allSteps, forwardCourse, adjointCourse};
 ghost use Rattle.magnus_graph_traj.specs.StepsTaken.{StepAt, StepsTaken};
 use error::Checked;
-use graph_traj::kernel::Segment;
+use graph_traj_segment::kernel::Segment;
 use magnus_graph_traj_step::kernel::run_step;
 
 // One step in segment k, which starts at t_start (`apply_magnus_k4_with_fn` of the Rust): the held signal becomes its image. sign is 1

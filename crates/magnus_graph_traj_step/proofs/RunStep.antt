@@ -22,17 +22,18 @@ use Rattle.error.specs.declared.Checked.{Checked}
 use Rattle.error.specs.declared.Checked.the-variants.{Accepted, Refused}
 use Rattle.error.specs.Checks.{next}
 use Rattle.error.proofs.Checks.{accepted-then}
-use Rattle.graph.specs.RowProduct.{rowSum64, rowProduct64}
-use Rattle.graph.proofs.First.{accepts-none}
+use Rattle.graph_rows.specs.RowProduct.{rowSum64, rowProduct64}
+use Rattle.graph_checks.proofs.First.{accepts-none}
 use Rattle.graph_pairs.specs.Pairs.{pairs, firsts, seconds}
 use Rattle.graph_pairs.proofs.Pairs.{firsts-of-pairs, seconds-of-pairs}
 use Rattle.magnus.specs.Operators.{Operator, omega4}
 use Rattle.magnus.specs.Coefficients.{reciprocalFactorial}
 use Rattle.magnus_graph_helpers.specs.Terms.{omega4Sum, omega4-sum, TermAdded, TermsAdded}
-use Rattle.magnus_graph_helpers.proofs.StepSound.{refused-not-accepted}
+use Rattle.magnus_graph_checks.proofs.StepSound.{refused-not-accepted}
 use Rattle.magnus_graph_helpers.proofs.Terms.{term-added}
-use Rattle.magnus_graph.specs.Omega4.{sqrt3Over12, expOmega4}
-use Rattle.graph_traj.specs.Laws.{lawValues, byLaw, valuesAt}
+use Rattle.magnus_graph.specs.Omega4.{sqrt3Over12}
+use Rattle.magnus_graph_step.specs.Omega4.{expOmega4}
+use Rattle.graph_traj_segment.specs.Laws.{lawValues, byLaw, valuesAt}
 use Rattle.graph_traj_samples.specs.Sampled.{sampledFault, lawPairs}
 use Rattle.graph_traj_samples.proofs.Sampled.{first-values, second-values}
 use Rattle.magnus_graph_traj_step.specs.RunStepTaken.{RunStepTaken}

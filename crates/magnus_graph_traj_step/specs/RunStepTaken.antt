@@ -9,9 +9,10 @@ use Rattle.scratch.specs.Parts.{part}
 use Rattle.error.specs.Checks.{next}
 use Rattle.error.specs.declared.Checked.{Checked}
 use Rattle.error.specs.declared.Checked.the-variants.{Accepted}
-use Rattle.graph.specs.RowProduct.{rowProduct64}
-use Rattle.magnus_graph.specs.Omega4.{sqrt3Over12, expOmega4}
-use Rattle.graph_traj.specs.Laws.{valuesAt}
+use Rattle.graph_rows.specs.RowProduct.{rowProduct64}
+use Rattle.magnus_graph.specs.Omega4.{sqrt3Over12}
+use Rattle.magnus_graph_step.specs.Omega4.{expOmega4}
+use Rattle.graph_traj_segment.specs.Laws.{valuesAt}
 use Rattle.graph_traj_samples.specs.Sampled.{sampledFault}
 
 -- a step in segment k of pools of lists of m values, m the number of columns, by the segment's law

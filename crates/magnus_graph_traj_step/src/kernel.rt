@@ -13,8 +13,8 @@ ghost use lib.Ieee.Scale.{finite};
 ghost use Rattle.rounding.specs.StepLength.{minusHalf};
 ghost use Rattle.arithmetic.specs.Arithmetic.{ieee};
 ghost use Rattle.scratch.specs.Parts.{part};
-ghost use Rattle.graph.specs.Pattern.{Pattern, ValuedPattern};
-ghost use Rattle.graph.specs.RowProduct.{rowProduct64};
+ghost use Rattle.graph_checks.specs.Pattern.{Pattern, ValuedPattern};
+ghost use Rattle.graph_rows.specs.RowProduct.{rowProduct64};
 ghost use Rattle.magnus.specs.Operators.{omega4};
 ghost use Rattle.magnus.specs.Coefficients.{reciprocalFactorial};
 ghost use Rattle.magnus_graph_helpers.specs.Terms.{TermAdded, TermsAdded};
@@ -22,14 +22,14 @@ ghost use Rattle.magnus_graph.specs.Omega4.{sqrt3Over12};
 ghost use Rattle.graph_pairs.specs.Pairs.{firsts, seconds};
 ghost use Rattle.magnus_graph_traj_step.specs.RunStepTaken.{RunStepTaken};
 use error::Checked;
-use graph::kernel::product_in;
+use graph_scratch::kernel::product_in;
 use graph_pairs::kernel::omega_in;
 use graph_pairs::kernel::products_in;
 use graph_traj_samples::kernel::sample;
-use magnus_graph::kernel::SQRT3_OVER_12_F64;
+use graph_traj_segment::kernel::SQRT3_OVER_12_F64;
 use magnus_graph_helpers::kernel::omega_sum;
 use magnus_graph_helpers::kernel::reciprocal_factorial;
-use scratch::kernel::add_scaled;
+use scratch_sums::kernel::add_scaled;
 use scratch::kernel::copy_within;
 
 // ---- two samples of law 2

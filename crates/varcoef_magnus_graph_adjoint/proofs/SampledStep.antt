@@ -17,15 +17,16 @@ use Rattle.error.specs.declared.Refusal.{Refusal}
 use Rattle.error.specs.declared.Checked.{Checked}
 use Rattle.error.specs.declared.Checked.the-variants.{Accepted, Refused}
 use Rattle.error.proofs.Checks.{refused-here, accepted-then}
-use Rattle.graph.specs.RowProduct.{rowProduct64}
+use Rattle.graph_rows.specs.RowProduct.{rowProduct64}
 use Rattle.magnus.specs.Operators.{taylor}
 use Rattle.magnus.specs.Coefficients.{reciprocalFactorial}
 use Rattle.magnus_graph.specs.StepOutcome.{adjoint}
-use Rattle.magnus_graph_helpers.specs.StepChecks.{sampleWeightsFault, weightFault}
+use Rattle.varcoef_magnus_graph_checks.specs.WeightedStepChecks.{sampleWeightsFault, weightFault}
 use Rattle.magnus_graph_helpers.specs.Terms.{TermsAdded}
-use Rattle.magnus_graph_helpers.proofs.StepSound.{refused-not-accepted}
-use Rattle.varcoef_magnus_graph.specs.WeightedOmega4.{sqrt3Over12, weightedOmega4}
-use Rattle.graph_traj.specs.Laws.{lawValues}
+use Rattle.magnus_graph_checks.proofs.StepSound.{refused-not-accepted}
+use Rattle.varcoef_magnus_graph.specs.WeightedOmega4.{sqrt3Over12}
+use Rattle.varcoef_magnus_graph_step.specs.WeightedOmega4.{weightedOmega4}
+use Rattle.graph_traj_segment.specs.Laws.{lawValues}
 use Rattle.graph_traj_samples.specs.Sampled.{sampledFault}
 use Rattle.varcoef_magnus_graph_adjoint.specs.StepsTaken.{Kept, StepTaken, stepFault, stepImage}
 use Rattle.varcoef_magnus_graph_adjoint.proofs.StepsTaken.{kept-then, kept-put}

@@ -11,15 +11,15 @@ use Rattle.square_root.specs.SquareRoot.{squareRoot}
 use Rattle.error.specs.Checks.{next}
 use Rattle.error.specs.declared.Checked.{Checked}
 use Rattle.error.specs.declared.Checked.the-variants.{Accepted}
-use Rattle.graph.specs.RowProduct.{rowProduct64}
+use Rattle.graph_rows.specs.RowProduct.{rowProduct64}
 use Rattle.magnus.specs.Operators.{weighted}
 use Rattle.magnus.specs.Run.{runAlong}
-use Rattle.magnus_graph.specs.Omega4.{expOmega4}
+use Rattle.magnus_graph_step.specs.Omega4.{expOmega4}
 use Rattle.magnus_graph.specs.StepOutcome.{adjoint}
-use Rattle.magnus_graph_helpers.specs.StepChecks.{weightFault}
+use Rattle.varcoef_magnus_graph_checks.specs.WeightedStepChecks.{weightFault}
 use Rattle.varcoef_magnus_graph.specs.WeightedOmega4.{sqrt3Over12}
-use Rattle.graph_traj.specs.Laws.{fraction, lawValues}
-use Rattle.graph_traj.specs.Times.{c1, c2, adjointStepStart, sampleTime}
+use Rattle.graph_traj_segment.specs.Laws.{fraction, lawValues}
+use Rattle.graph_traj_segment.specs.Times.{c1, c2, adjointStepStart, sampleTime}
 use Rattle.graph_traj_samples.specs.Sampled.{sampledFault}
 use Rattle.magnus_graph_traj.specs.RunSteps.{RunStep, firstFault}
 

@@ -6,9 +6,9 @@ use native.Mathlib.Omega.{arith}
 use lib.ListN.{length}
 use borrow.Author.Needs.{needs}
 use Rattle.scratch.specs.Parts.{part}
-use Rattle.graph.specs.PatternChecks.{notFiniteAt}
-use Rattle.graph.proofs.First.{Passed, passed-none}
-use Rattle.graph_traj.specs.Laws.{lawValues}
+use Rattle.graph_checks.specs.PatternChecks.{notFiniteAt}
+use Rattle.graph_checks.proofs.First.{Passed, passed-none}
+use Rattle.graph_traj_segment.specs.Laws.{lawValues}
 use Rattle.graph_traj_samples.proofs.Sampled.{refused-at, finite-at, none-left, value-at, length-values}
 use Rattle.graph_traj_samples.proofs.kernel.check_sample.Statement.{statement}
 use Rattle.graph_traj_samples.proofs.kernel.check_sample.Tie as tie

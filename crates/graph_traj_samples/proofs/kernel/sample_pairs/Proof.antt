@@ -11,7 +11,7 @@ use Rattle.scratch.specs.Parts.{part}
 use Rattle.scratch.proofs.Writing.{Written, written-none, written-all}
 use Rattle.graph_pairs.specs.Pairs.{alternate}
 use Rattle.graph_pairs.proofs.Pairs.{pair-written}
-use Rattle.graph_traj.specs.Laws.{lawValue}
+use Rattle.graph_traj_segment.specs.Laws.{lawValue}
 use Rattle.graph_traj_samples.proofs.Sampled.{value-is}
 use Rattle.graph_traj_samples.proofs.kernel.sample_pairs.Statement.{statement}
 use Rattle.graph_traj_samples.proofs.kernel.sample_pairs.Tie as tie

@@ -9,10 +9,10 @@ use lib.Ieee.{Float, nan}
 use lib.Ieee.Scale.{finite}
 use borrow.Author.Needs.{needs}
 use Rattle.float.specs.All.{all}
-use Rattle.graph.specs.First.{first}
-use Rattle.graph.specs.PatternChecks.{notFiniteAt}
+use Rattle.graph_checks.specs.First.{first}
+use Rattle.graph_checks.specs.PatternChecks.{notFiniteAt}
 use Rattle.graph_traj_samples.specs.Sampled.{sampledFault}
-use Rattle.graph.proofs.First.{none-fails, some-fails, refuses-first, accepts-none}
+use Rattle.graph_checks.proofs.First.{none-fails, some-fails, refuses-first, accepts-none}
 use Rattle.varcoef_magnus_graph_adjoint.proofs.kernel.check_sample.Statement.{statement}
 use Rattle.varcoef_magnus_graph_adjoint.proofs.kernel.check_sample.Tie as tie
 

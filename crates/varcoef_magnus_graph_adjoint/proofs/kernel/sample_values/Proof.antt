@@ -2,7 +2,7 @@
 use native.Mathlib.Omega.{arith}
 use lib.ListN.{length}
 use Rattle.arithmetic.proofs.Tabulate.{length-tabulate}
-use Rattle.graph_traj.specs.Laws.{lawValues}
+use Rattle.graph_traj_segment.specs.Laws.{lawValues}
 use Rattle.graph_traj_samples.specs.Sampled.{sampledFault}
 use Rattle.varcoef_magnus_graph_adjoint.proofs.Terms.{sampled-checked}
 use borrow.Author.Needs.{needs}
