@@ -184,6 +184,38 @@ mod exported {
             work: *mut f64,
             work_len: usize,
         ) -> u32;
+
+        pub fn bench_evolve_state_adjoint_la_into(
+            n: usize,
+            row_ptr: *const usize,
+            row_ptr_len: usize,
+            col_idx: *const u32,
+            col_idx_len: usize,
+            segments: usize,
+            breakpoints: *const f64,
+            breakpoints_len: usize,
+            starts: *const f64,
+            starts_len: usize,
+            ends: *const f64,
+            ends_len: usize,
+            laws: *const u8,
+            laws_len: usize,
+            tau: f64,
+            steps: usize,
+            rho_bar_max: f64,
+            a_sup_max: f64,
+            convergence_radius_check: bool,
+            a_starts: *const f64,
+            a_starts_len: usize,
+            a_ends: *const f64,
+            a_ends_len: usize,
+            src: *const f64,
+            src_len: usize,
+            dst: *mut f64,
+            dst_len: usize,
+            work: *mut f64,
+            work_len: usize,
+        ) -> u32;
     }
 }
 
@@ -453,6 +485,46 @@ impl Run<'_> {
                 self.steps,
                 self.rho_bar_max,
                 true,
+                signal.as_ptr(),
+                signal.len(),
+                dst.as_mut_ptr(),
+                dst.len(),
+                work.as_mut_ptr(),
+                work.len(),
+            )
+        }
+    }
+
+    /// The same with the weights of the nodes at the segment's ends, of 11n + 2m work elements. 0 where it accepts.
+    pub fn evolve_state_adjoint_la_into(&self, weights: [&[f64]; 2], a_sup_max: f64, dst: &mut [f64], work: &mut [f64]) -> u32 {
+        let Network { n, row_ptr, col_idx, vals, signal } = self.first;
+        let (breakpoints, laws) = ([0.0, self.end], [self.law]);
+        // SAFETY: each pointer and length is a slice's; the call reads within them and writes within the last two only.
+        unsafe {
+            exported::bench_evolve_state_adjoint_la_into(
+                *n,
+                row_ptr.as_ptr(),
+                row_ptr.len(),
+                col_idx.as_ptr(),
+                col_idx.len(),
+                1,
+                breakpoints.as_ptr(),
+                breakpoints.len(),
+                vals.as_ptr(),
+                vals.len(),
+                self.second.vals.as_ptr(),
+                self.second.vals.len(),
+                laws.as_ptr(),
+                laws.len(),
+                self.end / self.steps as f64,
+                self.steps,
+                self.rho_bar_max,
+                a_sup_max,
+                true,
+                weights[0].as_ptr(),
+                weights[0].len(),
+                weights[1].as_ptr(),
+                weights[1].len(),
                 signal.as_ptr(),
                 signal.len(),
                 dst.as_mut_ptr(),

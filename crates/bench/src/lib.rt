@@ -253,3 +253,47 @@ pub extern "C" fn bench_evolve_state_adjoint_into(
         work,
     ))
 }
+
+// The adjoint run with node weights, with its checks.
+#[no_mangle]
+pub extern "C" fn bench_evolve_state_adjoint_la_into(
+    n: usize,
+    row_ptr: &[usize],
+    col_idx: &[u32],
+    segments: usize,
+    breakpoints: &[f64],
+    starts: &[f64],
+    ends: &[f64],
+    laws: &[u8],
+    tau: f64,
+    steps: usize,
+    rho_bar_max: f64,
+    a_sup_max: f64,
+    convergence_radius_check: bool,
+    a_starts: &[f64],
+    a_ends: &[f64],
+    src: &[f64],
+    dst: &mut [f64],
+    work: &mut [f64],
+) -> u32 {
+    refused(varcoef_magnus_graph_adjoint::evolve_state_adjoint_into(
+        n,
+        row_ptr,
+        col_idx,
+        segments,
+        breakpoints,
+        starts,
+        ends,
+        laws,
+        tau,
+        steps,
+        rho_bar_max,
+        a_sup_max,
+        convergence_radius_check,
+        a_starts,
+        a_ends,
+        src,
+        dst,
+        work,
+    ))
+}
