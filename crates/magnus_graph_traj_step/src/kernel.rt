@@ -26,7 +26,7 @@ use graph_scratch::kernel::product_in;
 use graph_pairs::kernel::omega_in;
 use graph_pairs::kernel::products_in;
 use graph_traj_samples::kernel::sample;
-use graph_traj_segment::kernel::SQRT3_OVER_12_F64;
+use magnus_graph::SQRT3_OVER_12_F64;
 use magnus_graph_helpers::kernel::omega_sum;
 use magnus_graph_helpers::kernel::reciprocal_factorial;
 use scratch_sums::kernel::add_scaled;
