@@ -110,116 +110,48 @@ macro_rules! call {
     ($name:ident($($arguments:tt)*)) => { call!(@ $name () $($arguments)*,) };
 }
 
+#[rustfmt::skip]
 fn step(call: Call, case: &Case, lent: &LentCase) -> Answer {
     let (s, src, dst, work) = (&lent.samples, lent.src, lent.dst, lent.work);
     let (tau, bound, root_bound, check) = (case.tau, case.bound, case.root_bound, case.check);
     let [a1, a2] = lent.weights;
     match call {
-        Call::Omega4 => {
-            call!(fuistelo_apply_exp_omega4_kernel({ s[0] }, { s[1] }, tau, bound, check, [src], [dst], [work]))
-        }
-        Call::Omega4Adjoint => {
-            call!(fuistelo_apply_exp_omega4_adj_kernel({ s[0] }, { s[1] }, tau, bound, check, [src], [dst], [work]))
-        }
+        Call::Omega4 => call!(fuistelo_apply_exp_omega4_kernel(
+            {s[0]}, {s[1]}, tau, bound, check, [src], [dst], [work]
+        )),
+        Call::Omega4Adjoint => call!(fuistelo_apply_exp_omega4_adj_kernel(
+            {s[0]}, {s[1]}, tau, bound, check, [src], [dst], [work]
+        )),
         Call::Omega4La => call!(fuistelo_apply_exp_omega4_la_kernel(
-            { s[0] },
-            { s[1] },
-            tau,
-            bound,
-            root_bound,
-            check,
-            [a1],
-            [a2],
-            [src],
-            [dst],
-            [work]
+            {s[0]}, {s[1]}, tau, bound, root_bound, check, [a1], [a2], [src], [dst], [work]
         )),
         Call::Omega4LaAdjoint => call!(fuistelo_apply_exp_omega4_la_adj_kernel(
-            { s[0] },
-            { s[1] },
-            tau,
-            bound,
-            root_bound,
-            check,
-            [a1],
-            [a2],
-            [src],
-            [dst],
-            [work]
+            {s[0]}, {s[1]}, tau, bound, root_bound, check, [a1], [a2], [src], [dst], [work]
         )),
         _ => call!(fuistelo_apply_exp_omega6_kernel(
-            { s[0] },
-            { s[1] },
-            { s[2] },
-            tau,
-            bound,
-            check,
-            [src],
-            [dst],
-            [work]
+            {s[0]}, {s[1]}, {s[2]}, tau, bound, check, [src], [dst], [work]
         )),
     }
 }
 
+#[rustfmt::skip]
 fn run(call: Call, case: &Case, lent: &LentCase) -> Answer {
     let LentNetwork { n, row_ptr, col_idx, .. } = lent.samples[0];
-    let (segments, breakpoints, starts, ends, laws) =
-        (case.segments, lent.breakpoints, lent.starts, lent.ends, lent.laws);
+    let (segments, times, starts, ends, laws) = (case.segments, lent.breakpoints, lent.starts, lent.ends, lent.laws);
     let (tau, steps, bound, root_bound, check) = (case.tau, case.steps, case.bound, case.root_bound, case.check);
     let ([a1, a2], src, dst, work) = (lent.weights, lent.src, lent.dst, lent.work);
     match call {
         Call::Evolve => call!(fuistelo_evolve_with_traj_into(
-            n,
-            [row_ptr],
-            [col_idx],
-            segments,
-            [breakpoints],
-            [starts],
-            [ends],
-            [laws],
-            steps,
-            bound,
-            check,
-            [src],
-            [dst],
-            [work]
+            n, [row_ptr], [col_idx], segments, [times], [starts], [ends], [laws],
+            steps, bound, check, [src], [dst], [work]
         )),
         Call::EvolveAdjoint => call!(fuistelo_evolve_state_adjoint_into(
-            n,
-            [row_ptr],
-            [col_idx],
-            segments,
-            [breakpoints],
-            [starts],
-            [ends],
-            [laws],
-            tau,
-            steps,
-            bound,
-            check,
-            [src],
-            [dst],
-            [work]
+            n, [row_ptr], [col_idx], segments, [times], [starts], [ends], [laws],
+            tau, steps, bound, check, [src], [dst], [work]
         )),
         _ => call!(fuistelo_varcoef_evolve_state_adjoint_into(
-            n,
-            [row_ptr],
-            [col_idx],
-            segments,
-            [breakpoints],
-            [starts],
-            [ends],
-            [laws],
-            tau,
-            steps,
-            bound,
-            root_bound,
-            check,
-            [a1],
-            [a2],
-            [src],
-            [dst],
-            [work]
+            n, [row_ptr], [col_idx], segments, [times], [starts], [ends], [laws],
+            tau, steps, bound, root_bound, check, [a1], [a2], [src], [dst], [work]
         )),
     }
 }
