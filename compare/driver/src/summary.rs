@@ -103,7 +103,8 @@ impl Summary {
             let (alone, more) = round_of(faults_of(call).len());
             let cases = self.cases[call as usize] as usize;
             if alone > 0 && cases > 0 {
-                println!("| `{name}` | {alone} | {} | {} |", cases / 6 / alone, cases / 3 / more.max(1));
+                let times = [cases / 6 / alone, cases / 3 / more.max(1)].map(|count| grouped(count as u64));
+                println!("| `{name}` | {alone} | {} | {} |", times[0], times[1]);
             }
         }
         println!();
