@@ -146,7 +146,7 @@ pub fn measure(law: u8, first: &Network, second: &Network) -> [f64; 4] {
 }
 
 /// Nanoseconds of the Rust's weighted adjoint run and of ours.
-fn measure_weighted(law: u8, first: &Network, second: &Network, weights: &[Vec<f64>; 2]) -> [f64; 2] {
+pub fn measure_weighted(law: u8, first: &Network, second: &Network, weights: &[Vec<f64>; 2]) -> [f64; 2] {
     let (n, m) = (first.n, first.col_idx.len());
     let magnus =
         VarCoefMagnusGraphHeatChernoff::new(n, sampler(law, first, second), weigher(law, weights), RHO_BAR_MAX, A_SUP_MAX)

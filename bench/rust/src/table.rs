@@ -82,13 +82,16 @@ fn lines(shape: Shape, n: usize, libraries: &Libraries, random: &mut Random) -> 
     lines.add("weighted step of order 4", 0, 1);
     steps6::measure([&first, &second, &third]);
     lines.add("step of order 6", 0, 1);
-    for (law, forward, adjoint) in [
-        (0, "forward run, law 0", "adjoint run, law 0"),
-        (2, "forward run, law 2", "adjoint run, law 2"),
+    let weights = [(); 2].map(|()| (0..n).map(|_| 1.0 + random.real() / 2.0).collect());
+    for (law, forward, adjoint, weighted) in [
+        (0, "forward run, law 0", "adjoint run, law 0", "weighted adjoint run, law 0"),
+        (2, "forward run, law 2", "adjoint run, law 2", "weighted adjoint run, law 2"),
     ] {
         runs::measure(law, &first, &second);
         lines.add(forward, 0, 1);
         lines.add(adjoint, 2, 3);
+        runs::measure_weighted(law, &first, &second, &weights);
+        lines.add(weighted, 0, 1);
     }
     lines.text
 }
