@@ -22,15 +22,15 @@ ghost use Rattle.magnus_graph.specs.Omega4.{sqrt3Over12};
 ghost use Rattle.graph_pairs.specs.Pairs.{firsts, seconds};
 ghost use Rattle.magnus_graph_traj_step.specs.RunStepTaken.{RunStepTaken};
 use error::Checked;
-use graph_scratch::kernel::product_in;
 use graph_pairs::kernel::omega_in;
 use graph_pairs::kernel::products_in;
+use graph_scratch::kernel::product_in;
 use graph_traj_samples::kernel::sample;
 use magnus_graph::SQRT3_OVER_12_F64;
 use magnus_graph_helpers::kernel::omega_sum;
 use magnus_graph_helpers::kernel::reciprocal_factorial;
-use scratch_sums::kernel::add_scaled;
 use scratch::kernel::copy_within;
+use scratch_sums::kernel::add_scaled;
 
 // ---- two samples of law 2
 

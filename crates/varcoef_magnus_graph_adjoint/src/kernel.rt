@@ -31,14 +31,14 @@ use error::Refusal;
 use graph_rows::kernel::row_sum;
 use graph_traj_lists::first_not_finite;
 use graph_traj_segment::kernel::law_value;
-use varcoef_magnus_graph_checks::check_sample_weights;
 use magnus_graph_helpers::kernel::omega_sum;
 use magnus_graph_helpers::kernel::reciprocal_factorial;
-use scratch_sums::kernel::add_scaled;
 use scratch::kernel::copy_within;
 use scratch_products::kernel::multiply;
+use scratch_sums::kernel::add_scaled;
 use square_root::kernel::estimate;
 use square_root::kernel::root_near;
+use varcoef_magnus_graph_checks::check_sample_weights;
 
 // ---- samples of law 2
 
