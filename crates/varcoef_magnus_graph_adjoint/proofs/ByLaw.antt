@@ -24,7 +24,8 @@ use Rattle.graph_traj_parts.specs.Trajectory.{Trajectory, AcceptedAdjointTrajec
 use Rattle.graph_traj_samples.specs.Sampled.{sampledFault}
 use Rattle.magnus_graph_traj.specs.RunSteps.{RunStep, adjointCourse, segmentSteps, sampleAt, fractionAt, runStepFault}
 use Rattle.varcoef_magnus_graph_adjoint.specs.WeightedRunSteps.{weightsAt, weightedRunStepFault, weightedRunStepImage}
-use Rattle.varcoef_magnus_graph_adjoint.specs.StepsTaken.{StepsTaken, stepImage, sampledStepFault, sampledStepImage}
+use Rattle.varcoef_magnus_graph_traj_step.specs.StepTaken.{stepImage}
+use Rattle.varcoef_magnus_graph_adjoint.specs.StepsTaken.{StepsTaken, sampledStepFault, sampledStepImage}
 use Rattle.varcoef_magnus_graph_adjoint.proofs.Walk.{stepOf, same-taken}
 
 -- the one segment's list is the whole pool

@@ -1,6 +1,4 @@
-pub mod Terms
 pub mod StepsTaken
-pub mod SampledStep
 pub mod Walk
 pub mod ByLaw
 pub mod SampledFormat

@@ -3,14 +3,12 @@
 use mathlib.Core.Path.{_≡_, refl, sym, ap, _∙_}
 use mathlib.Core.Logic.{inl, ⊎-elim}
 use mathlib.Core.List.{List, [], _∷_, _++_}
-use Prim.Native.Nat.{ℕ, zero, suc, _+_, _≤_, _<_}
+use Prim.Native.Nat.{ℕ, zero, suc, _≤_, _<_}
 use native.Mathlib.Nat.{eq-or-lt-of-le, le-of-suc-le-suc}
 use native.Mathlib.Omega.{arith}
-use lib.ListN.{length, drop}
 use lib.Ieee.{Float}
 use Rattle.arithmetic.specs.Vector.{tabulate}
-use Rattle.scratch.specs.Parts.{part, put}
-use Rattle.scratch.proofs.Parts.{length-put, drop-of-put}
+use Rattle.scratch.specs.Parts.{part}
 use Rattle.error.specs.Checks.{next}
 use Rattle.error.specs.declared.Refusal.{Refusal}
 use Rattle.error.specs.declared.Checked.{Checked}
@@ -19,7 +17,9 @@ use Rattle.error.proofs.Checks.{next-refused, next-assoc, accepted-then}
 use Rattle.magnus.specs.Run.{runAlong}
 use Rattle.magnus_graph_checks.proofs.StepSound.{refused-not-accepted}
 use Rattle.magnus_graph_traj.specs.RunSteps.{RunStep, segmentSteps, firstFault}
-use Rattle.varcoef_magnus_graph_adjoint.specs.StepsTaken.{Kept, StepsTaken}
+use Rattle.varcoef_magnus_graph_traj_step.specs.StepTaken.{Kept}
+use Rattle.varcoef_magnus_graph_traj_step.proofs.Kept.{kept-all, kept-then}
+use Rattle.varcoef_magnus_graph_adjoint.specs.StepsTaken.{StepsTaken}
 
 -- ---- lists of steps
 
@@ -62,22 +62,6 @@ accepted-last : (c : Checked) → c ≡ next c Accepted
 unfolding next
 accepted-last Accepted = refl
 accepted-last (Refused r) = refl
-
--- ---- what is kept
-
-pub kept-all : {need : ℕ} (w : List Float) → Kept need w w
-kept-all w = record { length-kept = refl; rest = λ j h. refl }
-
-pub kept-then : {need : ℕ} {w w′ w″ : List Float} → Kept need w w′ → Kept need w′ w″ → Kept need w w″
-kept-then before after =
-    record { length-kept = after .length-kept ∙ before .length-kept; rest = λ j h. after .rest j h ∙ before .rest j h }
-
--- a vector was written before index `need`
-pub kept-put : {need : ℕ} (at : ℕ) (v w w′ : List Float) → at + length v ≤ need → w′ ≡ put at v w → Kept need w w′
-kept-put at v w w′ within e = record {
-  length-kept = rw e (length-put at v w);
-  rest = λ j h. rw e (drop-of-put at v w j (omega arith));
-}
 
 -- ---- steps in the work slice
 

@@ -1,6 +1,6 @@
 -- How the loops of a weighted run walk over the steps of its one segment: step by step with samples of law 2, and with one list for all
 -- steps under laws 0 and 1. Assumes nothing.
-use mathlib.Core.Path.{_≡_, refl, sym, ap, _∙_, subst}
+use mathlib.Core.Path.{_≡_, refl, sym, ap, _∙_, subst, subst₂}
 use mathlib.Core.List.{List, [], _∷_, _++_, map}
 use Prim.Native.Nat.{ℕ, zero, suc, _+_, _*_, _≤_, _<_}
 use native.Mathlib.Numerals.{add-one}
@@ -32,9 +32,11 @@ use Rattle.graph_traj_segment.specs.SegmentValue.{nextStep}
 use Rattle.graph_traj_segment.specs.Laws.{fraction, lawValues}
 use Rattle.graph_traj_segment.specs.Times.{c1, c2, adjointStepStart, sampleTime}
 use Rattle.magnus_graph_traj.specs.RunSteps.{RunStep, segmentSteps, firstFault}
-use Rattle.varcoef_magnus_graph_adjoint.specs.StepsTaken.{Kept, StepTaken, StepsTaken, stepImage, sampledStepFault, sampledStepImage}
+use Rattle.varcoef_magnus_graph_traj_step.specs.StepTaken.{Kept, StepTaken, stepImage}
+use Rattle.varcoef_magnus_graph_traj_step.proofs.Kept.{kept-all, kept-then, kept-put}
+use Rattle.varcoef_magnus_graph_adjoint.specs.StepsTaken.{StepsTaken, sampledStepFault, sampledStepImage}
 use Rattle.varcoef_magnus_graph_adjoint.proofs.StepsTaken.{run-along-append, first-fault-append, refusal-stays, segment-grows}
-use Rattle.varcoef_magnus_graph_adjoint.proofs.StepsTaken.{kept-all, kept-then, kept-put, none-taken, one-taken, more-taken, stays-refused}
+use Rattle.varcoef_magnus_graph_adjoint.proofs.StepsTaken.{none-taken, one-taken, more-taken, stays-refused}
 
 -- step j of the one segment, and the segment's value before it
 abbrev pub stepOf : ℕ → RunStep
@@ -110,6 +112,23 @@ module _ (n : ℕ) (rowStarts cols : List ℕ) (starts ends startWeights endWeig
       (lawValues (length startWeights) (fractionIn s c2) startWeights endWeights) answer w w′) here taken in
       one-taken (stepOf j) (same .answer-is) (same .held) (same .kept)
 
+-- a step whose samples lie at the same fractions, said otherwise
+pub sampled-at : (n : ℕ) (rowStarts cols : List ℕ) (τ : Float) (starts ends startWeights endWeights : List Float) (f1 f2 g1 g2 : Float)
+    {answer : Checked} {w w′ : List Float}
+    → let m = length starts in
+    let k = length startWeights in
+    f1 ≡ g1
+    → f2 ≡ g2
+    → StepTaken n rowStarts cols τ (lawValues m f1 starts ends) (lawValues m f2 starts ends)
+    (lawValues k f1 startWeights endWeights) (lawValues k f2 startWeights endWeights) answer w w′
+    → StepTaken n rowStarts cols τ (lawValues m g1 starts ends) (lawValues m g2 starts ends)
+    (lawValues k g1 startWeights endWeights) (lawValues k g2 startWeights endWeights) answer w w′
+sampled-at n rowStarts cols τ starts ends startWeights endWeights f1 f2 g1 g2 {answer} {w} {w′} p q taken =
+    subst₂
+    (λ (x y : Float). StepTaken n rowStarts cols τ (lawValues (length starts) x starts ends) (lawValues (length starts) y starts ends)
+    (lawValues (length startWeights) x startWeights endWeights) (lawValues (length startWeights) y startWeights endWeights) answer w w′)
+    p q taken
+
 -- ---- one list for all steps
 
 -- a fault that all steps share
@@ -139,46 +158,37 @@ module _ (n : ℕ) (rowStarts cols : List ℕ) (τ : Float) (x a : List Float) w
   pub record ConstantWalked (steps j : ℕ) (w₀ w : List Float) : Type 0 where
     pub within : j ≤ steps
     pub held : part 0 n w ≡ runAlong (λ (s : RunStep). image) (segmentSteps 0 j) (part 0 n w₀)
-    pub root1 : part (6 * n) n w ≡ root
-    pub root2 : part (7 * n) n w ≡ root
+    pub roots : part (6 * n) n w ≡ root
     pub kept : Kept need w₀ w
 
-  pub constant-begins : (steps : ℕ) (w w₁ w₂ : List Float)
+  pub constant-begins : (steps : ℕ) (w w₁ : List Float)
       → length a ≡ n
       → need ≤ length w
       → w₁ ≡ put (6 * n) root w
-      → w₂ ≡ put (7 * n) root w₁
-      → ConstantWalked steps 0 w w₂
+      → ConstantWalked steps 0 w w₁
   unfolding runAlong tabulate
-  constant-begins steps w w₁ w₂ size room first second =
+  constant-begins steps w w₁ size room taken =
       let s = length-map a (squareRoot binary64) ∙ size in
-      let kept1 : Kept need w w₁ = kept-put (6 * n) root w w₁ (omega arith) first in
-      let kept2 : Kept need w₁ w₂ = kept-put (7 * n) root w₁ w₂ (omega arith) second in
-      let l = kept1 .length-kept in
       record {
         within = omega arith;
-        held = ap (part 0 n) second ∙ part-of-put-before (7 * n) root w₁ 0 n (omega arith)
-            ∙ ap (part 0 n) first ∙ part-of-put-before (6 * n) root w 0 n (omega arith);
-        root1 = ap (part (6 * n) n) second ∙ part-of-put-before (7 * n) root w₁ (6 * n) n (omega arith)
-            ∙ ap (part (6 * n) n) first ∙ part-of-put (6 * n) n root w s (omega arith);
-        root2 = ap (part (7 * n) n) second ∙ part-of-put (7 * n) n root w₁ s (omega arith);
-        kept = kept-then kept1 kept2;
+        held = ap (part 0 n) taken ∙ part-of-put-before (6 * n) root w 0 n (omega arith);
+        roots = ap (part (6 * n) n) taken ∙ part-of-put (6 * n) n root w s (omega arith);
+        kept = kept-put (6 * n) root w w₁ (omega arith) taken;
       }
 
   -- the loop starts from there, and what it reaches is reached from before
-  pub constant-starts : {steps : ℕ} {w w₂ : List Float} → ConstantWalked steps 0 w w₂ → ConstantWalked steps 0 w₂ w₂
+  pub constant-starts : {steps : ℕ} {w w₁ : List Float} → ConstantWalked steps 0 w w₁ → ConstantWalked steps 0 w₁ w₁
   unfolding runAlong tabulate
-  constant-starts {steps} {w} {w₂} ready =
-      record { within = ready .within; held = refl; root1 = ready .root1; root2 = ready .root2; kept = kept-all w₂ }
+  constant-starts {steps} {w} {w₁} ready =
+      record { within = ready .within; held = refl; roots = ready .roots; kept = kept-all w₁ }
 
-  pub constant-from : {steps j : ℕ} {w w₂ w′ : List Float} → ConstantWalked steps 0 w w₂ → ConstantWalked steps j w₂ w′
+  pub constant-from : {steps j : ℕ} {w w₁ w′ : List Float} → ConstantWalked steps 0 w w₁ → ConstantWalked steps j w₁ w′
       → ConstantWalked steps j w w′
   unfolding runAlong tabulate
   constant-from {steps} {j} ready walked = record {
     within = walked .within;
     held = walked .held ∙ ap (runAlong (λ (s : RunStep). image) (segmentSteps 0 j)) (ready .held);
-    root1 = walked .root1;
-    root2 = walked .root2;
+    roots = walked .roots;
     kept = kept-then (ready .kept) (walked .kept);
   }
 
@@ -189,14 +199,14 @@ module _ (n : ℕ) (rowStarts cols : List ℕ) (τ : Float) (x a : List Float) w
       → ConstantWalked steps j w₀ w
       → j < steps
       → TermsAdded (ieee binary64) n (6 * n) (reciprocalFactorial binary64) 4
-      (weightedOmega4 (ieee binary64) n minusHalf sqrt3Over12 adjoint τ L L (part (6 * n) n w) (part (7 * n) n w)) w w′
+      (weightedOmega4 (ieee binary64) n minusHalf sqrt3Over12 adjoint τ L L (part (6 * n) n w) (part (6 * n) n w)) w w′
       → ConstantWalked steps (j + 1) w₀ w′
   unfolding runAlong tabulate
   constant-on {steps} {j} {w₀} {w} {w′} walked l terms =
       let step : part 0 n w′ ≡ image (part 0 n w) =
       terms .sum
       ∙ (λ i. taylor (ieee binary64) n (reciprocalFactorial binary64) 4
-      (weightedOmega4 (ieee binary64) n minusHalf sqrt3Over12 adjoint τ L L (walked .root1 i) (walked .root2 i)) (part 0 n w)) in
+      (weightedOmega4 (ieee binary64) n minusHalf sqrt3Over12 adjoint τ L L (walked .roots i) (walked .roots i)) (part 0 n w)) in
       let grown : runAlong (λ (s : RunStep). image) (segmentSteps 0 (suc j)) (part 0 n w₀)
       ≡ image (runAlong (λ (s : RunStep). image) (segmentSteps 0 j) (part 0 n w₀)) =
       run-along-append (λ (s : RunStep). image) (segmentSteps 0 j) (stepOf j ∷ []) (part 0 n w₀) in
@@ -205,8 +215,7 @@ module _ (n : ℕ) (rowStarts cols : List ℕ) (τ : Float) (x a : List Float) w
         held =
             step ∙ ap image (walked .held) ∙ sym grown
             ∙ ap (λ (k : ℕ). runAlong (λ (s : RunStep). image) (segmentSteps 0 k) (part 0 n w₀)) (sym (add-one j));
-        root1 = ap (take n) (terms .rest (6 * n) (omega arith)) ∙ walked .root1;
-        root2 = ap (take n) (terms .rest (7 * n) (omega arith)) ∙ walked .root2;
+        roots = ap (take n) (terms .rest (6 * n) (omega arith)) ∙ walked .roots;
         kept = kept-then (walked .kept) (record { length-kept = terms .length-kept; rest = λ k h. terms .rest k (omega arith) });
       }
 

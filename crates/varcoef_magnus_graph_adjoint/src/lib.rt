@@ -8,7 +8,6 @@ use scratch::kernel::load;
 use scratch::kernel::store;
 use steps::run_steps;
 
-pub mod kernel;
 mod steps;
 
 // The weighted adjoint run in the one segment of its trajectory: dst becomes src after `steps` steps of length tau, the last first. The

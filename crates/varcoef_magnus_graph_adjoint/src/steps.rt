@@ -3,77 +3,24 @@
 ghost use mathlib.Core.Path.{_≡_};
 ghost use Prim.Native.Nat.{_+_, _*_, _≤_, _<_};
 ghost use lib.ListN.{length};
-ghost use Rattle.graph_checks.specs.Pattern.{Pattern, ValuedPattern};
+ghost use Rattle.graph.specs.Pattern.{Pattern, ValuedPattern};
 ghost use Rattle.magnus_graph.specs.StepOutcome.{adjoint};
-ghost use Rattle.varcoef_magnus_graph_checks.specs.WeightedStepChecks.{weightFault};
-ghost use Rattle.graph_traj_segment.specs.Laws.{fraction, lawValues};
-ghost use Rattle.graph_traj_segment.specs.Times.{c1, c2, adjointStepStart, sampleTime};
-ghost use Rattle.graph_traj_parts.specs.Trajectory.{trajectory, AcceptedAdjointTrajectory};
+ghost use Rattle.magnus_graph_helpers.specs.StepChecks.{weightFault};
+ghost use Rattle.graph_traj.specs.Laws.{fraction, lawValues};
+ghost use Rattle.graph_traj.specs.Times.{c1, c2, adjointStepStart, sampleTime};
+ghost use Rattle.graph_traj.specs.Trajectory.{trajectory, AcceptedAdjointTrajectory};
 ghost use Rattle.magnus_graph_traj.specs.RunSteps.{segmentSteps, adjointCourse};
-ghost use Rattle.varcoef_magnus_graph_adjoint.specs.StepsTaken.{StepTaken, StepsTaken, stepImage};
+ghost use Rattle.varcoef_magnus_graph_traj_step.specs.StepTaken.{StepTaken, stepImage};
+ghost use Rattle.varcoef_magnus_graph_adjoint.specs.StepsTaken.{StepsTaken};
 ghost use Rattle.varcoef_magnus_graph_adjoint.specs.StepsTaken.{sampledStepFault, sampledStepImage};
 ghost use Rattle.varcoef_magnus_graph_adjoint.specs.WeightedRunSteps.{weightedRunStepFault, weightedRunStepImage};
-use crate::kernel::sample_roots;
-use crate::kernel::sample_values;
-use crate::kernel::sampled_taylor4;
 use error::Checked;
-use graph_traj_segment::kernel::Segment;
-use varcoef_magnus_graph::SQRT3_OVER_12_F64;
-use varcoef_magnus_graph_checks::check_sample_weights;
-use varcoef_magnus_graph_products::kernel::load_roots;
-use varcoef_magnus_graph_step::kernel::taylor4_la;
-
-// One step with samples of law 2 at two fractions of the way through the segment. Row 20 is checked for the first sample, then for the
-// second, and then row 11 for the weights of the first and of the second.
-fn sampled_step(
-    row_ptr: &[usize],
-    col_idx: &[u32],
-    starts: &[f64],
-    ends: &[f64],
-    a_starts: &[f64],
-    a_ends: &[f64],
-    n: usize,
-    tau: f64,
-    fraction1: f64,
-    fraction2: f64,
-    work: &mut [f64],
-) -> Checked
-    requires { ⌜ Pattern n (now «row_ptr») (now «col_idx») ⌝ }
-    requires { ⌜ (length (now starts) ≡ length (now «col_idx»)) × (length (now ends) ≡ length (now «col_idx»)) ⌝ }
-    requires { ⌜ (length (now «a_starts») ≡ n) × (length (now «a_ends») ≡ n) ⌝ }
-    requires { ⌜ 11 * n + 2 * length (now «col_idx») ≤ length (now work) ⌝ }
-    ensures { λ r. let m = length (now (starts .entry)) in
-        let k = length (now («a_starts» .entry)) in
-        ⌜ StepTaken n (now («row_ptr» .entry)) (now («col_idx» .entry)) tau
-        (lawValues m fraction1 (now (starts .entry)) (now (ends .entry)))
-        (lawValues m fraction2 (now (starts .entry)) (now (ends .entry)))
-        (lawValues k fraction1 (now («a_starts» .entry)) (now («a_ends» .entry)))
-        (lawValues k fraction2 (now («a_starts» .entry)) (now («a_ends» .entry)))
-        r (now (work .entry)) (now (work .exit)) ⌝ }
-{
-    let values1 = 11 * n;
-    let values2 = values1 + col_idx.len();
-    let r1 = 6 * n;
-    let r2 = 7 * n;
-    let first = sample_values(starts, ends, fraction1, work, values1);
-    let Checked::Accepted = first else {
-        return first;
-    };
-    let second = sample_values(starts, ends, fraction2, work, values2);
-    let Checked::Accepted = second else {
-        return second;
-    };
-    let third = sample_roots(a_starts, a_ends, fraction1, work, r1);
-    let Checked::Accepted = third else {
-        return third;
-    };
-    let fourth = sample_roots(a_starts, a_ends, fraction2, work, r2);
-    let Checked::Accepted = fourth else {
-        return fourth;
-    };
-    sampled_taylor4(row_ptr, col_idx, tau, -1.0, SQRT3_OVER_12_F64, work, n);
-    Checked::Accepted
-}
+use graph_traj::kernel::Segment;
+use magnus_graph_helpers::check::check_sample_weights;
+use varcoef_magnus_graph::kernel::SQRT3_OVER_12_F64;
+use varcoef_magnus_graph::kernel::load_roots;
+use varcoef_magnus_graph_traj_step::kernel::constant_taylor4;
+use varcoef_magnus_graph_traj_step::kernel::sampled_step;
 
 // The step that comes next in a segment of law 2, in an adjoint run of so many steps.
 fn sampled_step_at(
@@ -194,12 +141,8 @@ fn constant_steps(
         return positive;
     };
     load_roots(a, work, 6 * n);
-    load_roots(a, work, 7 * n);
     for _ in 0..steps {
-        taylor4_la(
-            row_ptr,
-            col_idx,
-            vals,
+        constant_taylor4(
             row_ptr,
             col_idx,
             vals,

@@ -9,8 +9,8 @@ use Rattle.arithmetic.specs.Arithmetic.{ieee, at}
 use Rattle.scratch.proofs.Writing.{Written, written-none, written-next, written-all}
 use Rattle.graph_traj_segment.specs.Laws.{lawValue, lawValues}
 use borrow.Author.Needs.{needs}
-use Rattle.varcoef_magnus_graph_adjoint.proofs.kernel.sample_in.Statement.{statement}
-use Rattle.varcoef_magnus_graph_adjoint.proofs.kernel.sample_in.Tie as tie
+use Rattle.varcoef_magnus_graph_traj_step.proofs.kernel.sample_in.Statement.{statement}
+use Rattle.varcoef_magnus_graph_traj_step.proofs.kernel.sample_in.Tie as tie
 
 abbrev Inv-loop : tie.InvT-loop
 Inv-loop starts ends fraction work₀ target i₀ i-end work i =

@@ -1,0 +1,5 @@
+pub mod Behind
+pub mod WeightedPairs
+pub mod Terms
+pub mod Kept
+pub mod SampledStep

@@ -1,0 +1,2 @@
+pub mod StepTaken
+pub mod WeightedPairs
