@@ -9,8 +9,8 @@ use Rattle.scratch.specs.Parts.{part}
 use Rattle.error.specs.declared.Checked.{Checked}
 use Rattle.error.specs.declared.Checked.the-variants.{Accepted}
 use Rattle.magnus.specs.Run.{runAlong}
-use Rattle.graph_traj.specs.Laws.{fraction, lawValues}
-use Rattle.graph_traj.specs.Times.{c1, c2, adjointStepStart, sampleTime}
+use Rattle.graph_traj_segment.specs.Laws.{fraction, lawValues}
+use Rattle.graph_traj_segment.specs.Times.{c1, c2, adjointStepStart, sampleTime}
 use Rattle.magnus_graph_traj.specs.RunSteps.{RunStep, firstFault}
 use Rattle.varcoef_magnus_graph_traj_step.specs.StepTaken.{Kept, stepFault, stepImage}
 

@@ -10,7 +10,7 @@ use lib.Seq.{sets-eq, take-set-le, drop-set-lt, drop-drop}
 use Rattle.scratch.specs.Parts.{part, put}
 use Rattle.scratch.proofs.Parts.{getD-part}
 use Rattle.scratch.proofs.Writing.{Written}
-use Rattle.graph.proofs.WorkSlice.{outside-kept}
+use Rattle.graph_scratch.proofs.WorkSlice.{outside-kept}
 
 module _ {K : Type 0} {target : ℕ} {f : ℕ → K} {size : ℕ} {w₀ : List K} {k : ℕ} {w : List K} (written : Written target f size w₀ k w) where
   -- element j of m elements behind what is written

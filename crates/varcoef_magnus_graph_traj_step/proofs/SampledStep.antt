@@ -17,17 +17,17 @@ use Rattle.error.specs.declared.Refusal.{Refusal}
 use Rattle.error.specs.declared.Checked.{Checked}
 use Rattle.error.specs.declared.Checked.the-variants.{Accepted, Refused}
 use Rattle.error.proofs.Checks.{refused-here, accepted-then}
-use Rattle.graph.specs.RowProduct.{rowProduct64}
+use Rattle.graph_rows.specs.RowProduct.{rowProduct64}
 use Rattle.graph_pairs.specs.Pairs.{firsts, seconds}
 use Rattle.magnus.specs.Operators.{weighted}
 use Rattle.magnus.specs.Coefficients.{reciprocalFactorial}
-use Rattle.magnus_graph.specs.Omega4.{expOmega4}
+use Rattle.magnus_graph_step.specs.Omega4.{expOmega4}
 use Rattle.magnus_graph.specs.StepOutcome.{adjoint}
-use Rattle.magnus_graph_helpers.specs.StepChecks.{sampleWeightsFault, weightFault}
+use Rattle.varcoef_magnus_graph_checks.specs.WeightedStepChecks.{sampleWeightsFault, weightFault}
 use Rattle.magnus_graph_helpers.specs.Terms.{TermsAdded}
-use Rattle.magnus_graph_helpers.proofs.StepSound.{refused-not-accepted}
+use Rattle.magnus_graph_checks.proofs.StepSound.{refused-not-accepted}
 use Rattle.varcoef_magnus_graph.specs.WeightedOmega4.{sqrt3Over12}
-use Rattle.graph_traj.specs.Laws.{lawValues}
+use Rattle.graph_traj_segment.specs.Laws.{lawValues}
 use Rattle.graph_traj_samples.specs.Sampled.{sampledFault}
 use Rattle.varcoef_magnus_graph_traj_step.specs.StepTaken.{Kept, StepTaken}
 use Rattle.varcoef_magnus_graph_traj_step.specs.WeightedPairs.{rootPairs}

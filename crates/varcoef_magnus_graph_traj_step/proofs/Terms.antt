@@ -12,13 +12,13 @@ use Rattle.arithmetic.specs.Product.{plusScaled}
 use Rattle.arithmetic.proofs.Tabulate.{length-tabulate}
 use Rattle.scratch.specs.Parts.{part, put}
 use Rattle.scratch.proofs.Parts.{Wrote, wrote, length-part, part-of-put-before}
-use Rattle.graph.specs.RowProduct.{rowProduct64}
+use Rattle.graph_rows.specs.RowProduct.{rowProduct64}
 use Rattle.graph_pairs.specs.Pairs.{firsts, seconds}
 use Rattle.magnus.specs.Operators.{Operator, weighted, omega4}
 use Rattle.magnus_graph_helpers.specs.Terms.{omega4Sum, omega4-sum, TermAdded, TermsAdded}
 use Rattle.magnus_graph_helpers.proofs.Terms.{ProductPlaced, room-left, term-added, term4-constant-added}
-use Rattle.varcoef_magnus_graph.specs.WeightedOmega4.{weightedOmega4}
-use Rattle.varcoef_magnus_graph.proofs.Terms.{weighted-written, weighted-placed, roots-kept}
+use Rattle.varcoef_magnus_graph_step.specs.WeightedOmega4.{weightedOmega4}
+use Rattle.varcoef_magnus_graph_products.proofs.WeightedProduct.{weighted-written, weighted-placed, roots-kept}
 use Rattle.varcoef_magnus_graph_traj_step.specs.WeightedPairs.{scaledPairs, rootedPairs}
 use Rattle.varcoef_magnus_graph_traj_step.proofs.WeightedPairs.{first-scaled, second-scaled, first-multiplied, second-multiplied}
 use Rattle.varcoef_magnus_graph_traj_step.proofs.WeightedPairs.{first-rooted, second-rooted}

@@ -10,7 +10,7 @@ use Rattle.arithmetic.specs.Arithmetic.{Arithmetic, ieee, at, multiplied}
 use Rattle.arithmetic.proofs.Tabulate.{tabulate-same, tabulate-elements}
 use Rattle.arithmetic.proofs.Product.{at-tabulate}
 use Rattle.square_root.specs.SquareRoot.{squareRoot}
-use Rattle.graph.specs.RowProduct.{rowSum64, rowProduct64}
+use Rattle.graph_rows.specs.RowProduct.{rowSum64, rowProduct64}
 use Rattle.graph_pairs.specs.Pairs.{firsts, seconds}
 use Rattle.graph_pairs.proofs.Pairs.{at-firsts, at-seconds, firsts-of-pairs, seconds-of-pairs}
 use Rattle.varcoef_magnus_graph_traj_step.specs.WeightedPairs.{rootPairs, scaledPairs, rootedPairs}

@@ -11,11 +11,11 @@ use Rattle.square_root.specs.SquareRoot.{squareRoot}
 use Rattle.error.specs.Checks.{next}
 use Rattle.error.specs.declared.Checked.{Checked}
 use Rattle.error.specs.declared.Checked.the-variants.{Accepted}
-use Rattle.graph.specs.RowProduct.{rowProduct64}
+use Rattle.graph_rows.specs.RowProduct.{rowProduct64}
 use Rattle.magnus.specs.Operators.{weighted}
-use Rattle.magnus_graph.specs.Omega4.{expOmega4}
+use Rattle.magnus_graph_step.specs.Omega4.{expOmega4}
 use Rattle.magnus_graph.specs.StepOutcome.{adjoint}
-use Rattle.magnus_graph_helpers.specs.StepChecks.{weightFault}
+use Rattle.varcoef_magnus_graph_checks.specs.WeightedStepChecks.{weightFault}
 use Rattle.varcoef_magnus_graph.specs.WeightedOmega4.{sqrt3Over12}
 use Rattle.graph_traj_samples.specs.Sampled.{sampledFault}
 

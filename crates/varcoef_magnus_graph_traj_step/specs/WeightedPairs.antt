@@ -5,7 +5,7 @@ use lib.ListN.{length}
 use lib.Ieee.{Float, binary64, mul}
 use Rattle.arithmetic.specs.Arithmetic.{ieee, at}
 use Rattle.square_root.specs.SquareRoot.{squareRoot}
-use Rattle.graph.specs.RowProduct.{rowSum64}
+use Rattle.graph_rows.specs.RowProduct.{rowSum64}
 use Rattle.graph_pairs.specs.Pairs.{pairs, firsts, seconds}
 
 module _ (n : ℕ) where

@@ -8,8 +8,8 @@ use Rattle.varcoef_magnus_graph_adjoint.proofs.Walk.{ConstantWalked, co
 use Rattle.varcoef_magnus_graph_adjoint.proofs.Walk.{constant-ends, constant-refused}
 use Rattle.varcoef_magnus_graph_adjoint.proofs.steps.constant_steps.Statement.{statement}
 use Rattle.varcoef_magnus_graph_adjoint.proofs.steps.constant_steps.Tie as tie
-use Rattle.magnus_graph_helpers.proofs.check.check_sample_weights.Reads as check-sample-weights-reads
-use Rattle.varcoef_magnus_graph.proofs.kernel.load_roots.Reads as load-roots-reads
+use Rattle.varcoef_magnus_graph_checks.proofs.check_sample_weights.Reads as check-sample-weights-reads
+use Rattle.varcoef_magnus_graph_products.proofs.kernel.load_roots.Reads as load-roots-reads
 use Rattle.varcoef_magnus_graph_traj_step.proofs.kernel.constant_taylor4.Reads as constant-taylor4-reads
 
 abbrev Inv-loop : tie.InvT-loop

@@ -1,8 +1,8 @@
 -- `sampled_step_at` meets its contract: the samples lie where the segment's value says. Assumes nothing.
 use mathlib.Core.Path.{ap, _∙_}
 use lib.Ieee.{Float}
-use Rattle.graph_traj.specs.Laws.{fraction}
-use Rattle.graph_traj.specs.Times.{c1, c2, sampleTime}
+use Rattle.graph_traj_segment.specs.Laws.{fraction}
+use Rattle.graph_traj_segment.specs.Times.{c1, c2, sampleTime}
 use Rattle.varcoef_magnus_graph_adjoint.proofs.Walk.{sampled-at}
 use borrow.Author.Needs.{needs}
 use Rattle.varcoef_magnus_graph_adjoint.proofs.steps.sampled_step_at.Statement.{statement}

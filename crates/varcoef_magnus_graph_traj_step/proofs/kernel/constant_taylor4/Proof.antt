@@ -4,7 +4,7 @@ use Prim.Native.Nat.{_-_, _*_}
 use native.Mathlib.Omega.{arith}
 use lib.Ieee.{binary64}
 use Rattle.arithmetic.specs.Arithmetic.{ieee}
-use Rattle.graph.specs.RowProduct.{rowProduct64}
+use Rattle.graph_rows.specs.RowProduct.{rowProduct64}
 use Rattle.magnus.specs.Coefficients.{reciprocalFactorial}
 use Rattle.magnus_graph_helpers.proofs.Terms.{TermsTurn, turns-none, turns-next, turns-all}
 use Rattle.varcoef_magnus_graph_traj_step.proofs.Terms.{constantOmega, constant-omega-kept, term-same, terms-same, copied-rest}

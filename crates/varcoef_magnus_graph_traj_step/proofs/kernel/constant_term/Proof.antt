@@ -2,7 +2,7 @@
 -- to the sum. The roots lie behind all of these. Assumes nothing.
 use native.Mathlib.Omega.{arith}
 use lib.Ieee.{ofBits, neg}
-use Rattle.graph.specs.RowProduct.{rowProduct64}
+use Rattle.graph_rows.specs.RowProduct.{rowProduct64}
 use Rattle.varcoef_magnus_graph_traj_step.proofs.Terms.{constant-term-added}
 use borrow.Author.Needs.{needs}
 use Rattle.varcoef_magnus_graph_traj_step.proofs.kernel.constant_term.Statement.{statement}

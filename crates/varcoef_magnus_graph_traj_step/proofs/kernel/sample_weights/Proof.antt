@@ -2,10 +2,10 @@
 use mathlib.Core.Path.{ap, _∙_}
 use lib.ListN.{length}
 use Rattle.scratch.proofs.Parts.{wrote}
-use Rattle.graph.proofs.WorkSlice.{lent-part}
-use Rattle.graph_traj.specs.Laws.{lawValues}
+use Rattle.graph_scratch.proofs.WorkSlice.{lent-part}
+use Rattle.graph_traj_segment.specs.Laws.{lawValues}
 use Rattle.graph_traj_samples.proofs.Sampled.{length-values}
-use Rattle.magnus_graph_helpers.specs.StepChecks.{sampleWeightsFault}
+use Rattle.varcoef_magnus_graph_checks.specs.WeightedStepChecks.{sampleWeightsFault}
 use borrow.Author.Needs.{needs}
 use Rattle.varcoef_magnus_graph_traj_step.proofs.kernel.sample_weights.Statement.{statement}
 use Rattle.varcoef_magnus_graph_traj_step.proofs.kernel.sample_weights.Tie as tie

@@ -8,7 +8,7 @@ use lib.Ieee.{ofBits, neg}
 use Rattle.arithmetic.proofs.Tabulate.{length-tabulate}
 use Rattle.scratch.specs.Parts.{part}
 use Rattle.error.specs.Checks.{next}
-use Rattle.graph_traj.specs.Laws.{lawValues}
+use Rattle.graph_traj_segment.specs.Laws.{lawValues}
 use Rattle.graph_traj_samples.specs.Sampled.{sampledFault, lawPairs}
 use Rattle.graph_traj_samples.proofs.Sampled.{length-values, first-values, second-values}
 use Rattle.varcoef_magnus_graph_traj_step.proofs.SampledStep.{whole-values, samples-refused, first-refused, second-refused, sampled-taken}

@@ -10,8 +10,8 @@ use Rattle.arithmetic.specs.Arithmetic.{ieee, at, multiplied}
 use Rattle.arithmetic.proofs.Product.{at-tabulate}
 use Rattle.scratch.specs.Parts.{part}
 use Rattle.scratch.proofs.Writing.{Written, written-none, written-next, written-all}
-use Rattle.graph.specs.RowProduct.{rowSum64, rowProduct64}
-use Rattle.graph.proofs.WorkSlice.{lent-part, length-lent-part, outside-kept}
+use Rattle.graph_rows.specs.RowProduct.{rowSum64, rowProduct64}
+use Rattle.graph_scratch.proofs.WorkSlice.{lent-part, length-lent-part, outside-kept}
 use Rattle.graph_pairs.specs.Pairs.{firsts, seconds}
 use Rattle.graph_pairs.proofs.Pairs.{at-firsts, at-seconds, omega-place}
 use Rattle.magnus_graph_helpers.proofs.Terms.{omega4SumAt, omega4-sum-walk}

@@ -9,8 +9,8 @@ use lib.Ieee.{binary64, mul, nan}
 use Rattle.arithmetic.specs.Arithmetic.{ieee, at}
 use Rattle.scratch.specs.Parts.{part}
 use Rattle.scratch.proofs.Writing.{Written, written-none, written-all}
-use Rattle.graph.specs.RowProduct.{rowSum64}
-use Rattle.graph.proofs.WorkSlice.{lent-part, length-lent-part, outside-kept}
+use Rattle.graph_rows.specs.RowProduct.{rowSum64}
+use Rattle.graph_scratch.proofs.WorkSlice.{lent-part, length-lent-part, outside-kept}
 use Rattle.graph_pairs.specs.Pairs.{alternate, firsts, seconds}
 use Rattle.graph_pairs.proofs.Pairs.{pair-written}
 use Rattle.varcoef_magnus_graph_traj_step.proofs.Behind.{read-behind}
