@@ -1,7 +1,6 @@
-// The row product of a vector that lies in a work slice, for callers that have checked the pattern. The signal, the result
-// and, in one form, the values are found by the index of their first element.
+// The row product of a vector that lies in a work slice, for callers that have checked the pattern. The signal and the
+// result are found by the index of their first element.
 ghost use mathlib.Core.Path.{_≡_};
-ghost use mathlib.Core.Logic.{_⊎_};
 ghost use Prim.Native.Nat.{_+_, _≤_};
 ghost use lib.ListN.{length};
 ghost use Rattle.scratch.specs.Parts.{part, put, Apart};
@@ -39,61 +38,6 @@ pub fn product_in(
     }
     if i < n {
         let acc = row_sum(row_ptr, col_idx, vals, &work[source..source_end], i);
-        work[target + i] = acc;
-    }
-}
-
-// The same, also two rows a turn, with values that lie in the work slice too: at `values`, as many as columns, wholly
-// before or after the target.
-pub fn product_valued_in(
-    row_ptr: &[usize],
-    col_idx: &[u32],
-    work: &mut [f64],
-    n: usize,
-    values: usize,
-    source: usize,
-    target: usize,
-)
-    requires { ⌜ Pattern n (now «row_ptr») (now «col_idx») ⌝ }
-    requires { ⌜ (source + n ≤ length (now work)) × (target + n ≤ length (now work)) × Apart n source target ⌝ }
-    requires { ⌜ values + length (now «col_idx») ≤ length (now work) ⌝ }
-    requires { ⌜ (values + length (now «col_idx») ≤ target) ⊎ (target + n ≤ values) ⌝ }
-    ensures { λ _. let w = now (work .entry) in
-        let vals = part values (length (now («col_idx» .entry))) w in
-        let v = part source n w in
-        let product = rowProduct64 n (now («row_ptr» .entry)) (now («col_idx» .entry)) vals v in
-        ⌜ now (work .exit) ≡ put target product w ⌝ }
-{
-    let values_end = values + col_idx.len();
-    let source_end = source + n;
-    let mut i = 0;
-    while i + 1 < n {
-        let acc = row_sum(
-            row_ptr,
-            col_idx,
-            &work[values..values_end],
-            &work[source..source_end],
-            i,
-        );
-        let next_acc = row_sum(
-            row_ptr,
-            col_idx,
-            &work[values..values_end],
-            &work[source..source_end],
-            i + 1,
-        );
-        work[target + i] = acc;
-        work[target + (i + 1)] = next_acc;
-        i = i + 2;
-    }
-    if i < n {
-        let acc = row_sum(
-            row_ptr,
-            col_idx,
-            &work[values..values_end],
-            &work[source..source_end],
-            i,
-        );
         work[target + i] = acc;
     }
 }
