@@ -1,4 +1,4 @@
-// The bytes of a job (01, "The job program"): whether they are well formed, and what their fields say. specs/JobFormat.antt has the format.
+// The bytes of a job (01, "The job program"): whether they are well formed, and where their fields start. specs/JobFormat.antt has the format.
 ghost use mathlib.Core.Path.{_≡_};
 ghost use Prim.Native.Nat.{min};
 ghost use lib.ListN.{length};
