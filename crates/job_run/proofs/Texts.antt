@@ -10,7 +10,7 @@ use Rattle.error.specs.declared.Checked.the-variants.{Accepted, Refused}
 use Rattle.error.proofs.Checks.{next-refused, accepted-then}
 use Rattle.error.proofs.Left.{fault-is}
 use Rattle.job_text.specs.Text.{DoneText, RefusedText}
-use Rattle.job_text.specs.Placed.{Begins}
+use Rattle.job_text_numbers.specs.Placed.{Begins}
 use Rattle.job_format.specs.JobFormat.{jobOf, malformedFault}
 use Rattle.job_format.proofs.Malformed.{accepted-sizes}
 use Rattle.job_step.specs.JobOutcome.{jobStepAnswer, jobStepOutput, jobAnswer, jobOutput}

@@ -4,7 +4,7 @@ ghost use Prim.Native.Nat.{_≤_};
 ghost use lib.ListN.{length};
 ghost use Rattle.scratch.specs.Parts.{zeros};
 ghost use Rattle.error.specs.declared.Checked.the-variants.{Accepted};
-ghost use Rattle.job_text.specs.Placed.{Begins};
+ghost use Rattle.job_text_numbers.specs.Placed.{Begins};
 ghost use Rattle.job_format.specs.JobFormat.{jobOf, malformedFault};
 ghost use Rattle.job_step.specs.JobOutcome.{jobStepAnswer, jobStepOutput};
 ghost use Rattle.job_run.specs.JobText.{AnswerText, JobText};

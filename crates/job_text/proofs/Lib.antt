@@ -1,4 +1,2 @@
-pub mod Placing
-pub mod Digits
 pub mod Texts
 pub mod Only

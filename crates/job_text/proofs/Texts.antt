@@ -3,11 +3,12 @@ use mathlib.Core.List.{List, [], _∷_, _++_, append-assoc, append-nil}
 use Prim.Native.Nat.{ℕ}
 use lib.Ieee.{Float}
 use Rattle.error.specs.Refusals.{Carried}
-use Rattle.job_text.specs.Placed.{PlacedSome}
-use Rattle.job_text.specs.Text.{RealText, ValueText, newline, space, Lines, Spaced}
+use Rattle.job_text_numbers.specs.Placed.{PlacedSome}
+use Rattle.job_text_numbers.specs.Numbers.{RealText}
+use Rattle.job_text.specs.Text.{ValueText, newline, space, Lines, Spaced}
 use Rattle.job_text.specs.Text.Lines.{none as no-line, line}
 use Rattle.job_text.specs.Text.Spaced.{none as no-value, value}
-use Rattle.job_text.proofs.Placing.{placed-append, some}
+use Rattle.job_text_numbers.proofs.Placing.{placed-append, some}
 
 -- one more line
 pub lines-next : {xs : List Float} {u : List ℕ} {x : Float} {t : List ℕ}

@@ -5,15 +5,15 @@ ghost use mathlib.Core.List.{_∷_, []};
 ghost use Prim.Native.Nat.{_+_, _≤_};
 ghost use lib.ListN.{length};
 ghost use Rattle.error.specs.Refusals.{count, real, numberOf, valuesOf};
-ghost use Rattle.job_text.specs.Placed.{PlacedSome, Begins};
+ghost use Rattle.job_text_numbers.specs.Placed.{PlacedSome, Begins};
 ghost use Rattle.job_text.specs.Text.{Spaced, RefusedText};
 ghost use Rattle.job_text.specs.Row.{listOf};
 use error::Refusal;
+use job_text_numbers::kernel::put_byte;
+use job_text_numbers::kernel::put_bytes;
+use job_text_numbers::kernel::put_decimal;
+use job_text_numbers::kernel::put_real;
 use kernel::NEWLINE;
-use kernel::put_byte;
-use kernel::put_bytes;
-use kernel::put_decimal;
-use kernel::put_real;
 
 pub mod kernel;
 

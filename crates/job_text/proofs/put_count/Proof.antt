@@ -1,7 +1,7 @@
 -- `put_count` meets its contract: a space, and behind it the count. Assumes nothing.
 use native.Mathlib.Omega.{arith}
 use Rattle.job_text.specs.Text.ValueText.{of-count}
-use Rattle.job_text.proofs.Placing.{placed-append, some}
+use Rattle.job_text_numbers.proofs.Placing.{placed-append, some}
 use Rattle.job_text.proofs.Texts.{spaced-one}
 use borrow.Author.Needs.{needs}
 use Rattle.job_text.proofs.put_count.Statement.{statement}

@@ -4,7 +4,7 @@ use mathlib.Core.List.{List}
 use Prim.Native.Nat.{ℕ}
 use native.Mathlib.Omega.{arith}
 use Rattle.job_text.specs.declared.Row.{Row}
-use Rattle.job_text.specs.Placed.{PlacedSome}
+use Rattle.job_text_numbers.specs.Placed.{PlacedSome}
 use Rattle.job_text.specs.Row.{listOf}
 use Rattle.job_text.specs.Text.{Spaced}
 use Rattle.job_text.proofs.Texts.{spaced-behind}

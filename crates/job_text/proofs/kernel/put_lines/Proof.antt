@@ -7,10 +7,11 @@ use native.Mathlib.Omega.{arith}
 use lib.ListN.{length, take, getD}
 use lib.Seq.{take-suc, take-length}
 use lib.Ieee.{Float, nan}
-use Rattle.job_text.specs.Placed.{Placed, PlacedSome}
-use Rattle.job_text.specs.Text.{RealText, newline, Lines}
+use Rattle.job_text_numbers.specs.Placed.{Placed, PlacedSome}
+use Rattle.job_text_numbers.specs.Numbers.{RealText}
+use Rattle.job_text.specs.Text.{newline, Lines}
 use Rattle.job_text.specs.Text.Lines.{none}
-use Rattle.job_text.proofs.Placing.{placed-none, length-placed, placed-append, some}
+use Rattle.job_text_numbers.proofs.Placing.{placed-none, length-placed, placed-append, some}
 use Rattle.job_text.proofs.Texts.{lines-next}
 use Rattle.job_text.proofs.kernel.put_lines.Statement.{statement}
 use Rattle.job_text.proofs.kernel.put_lines.Tie as tie

@@ -1,9 +1,9 @@
 -- `kernel::digit` meets its contract: it tests as the definition does. Assumes nothing.
 use mathlib.Core.Path.{sym}
 use borrow.Author.Needs.{needs}
-use Rattle.job_text.proofs.Digits.{digit-below-ten, digit-above}
-use Rattle.job_text.proofs.kernel.digit.Statement.{statement}
-use Rattle.job_text.proofs.kernel.digit.Tie as tie
+use Rattle.job_text_numbers.proofs.Digits.{digit-below-ten, digit-above}
+use Rattle.job_text_numbers.proofs.kernel.digit.Statement.{statement}
+use Rattle.job_text_numbers.proofs.kernel.digit.Tie as tie
 
 cast-result : tie.Need-cast-result
 cast-result c = search needs

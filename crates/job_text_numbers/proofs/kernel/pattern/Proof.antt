@@ -5,8 +5,8 @@ use lib.Dec.{T}
 use lib.Ieee.{nan, binary64, ofBits}
 use lib.Ieee.Bits.{ofBits-toBits}
 use Rattle.rounding.proofs.Nan.{unequal-to-itself, equal-to-itself}
-use Rattle.job_text.proofs.kernel.pattern.Statement.{statement}
-use Rattle.job_text.proofs.kernel.pattern.Tie as tie
+use Rattle.job_text_numbers.proofs.kernel.pattern.Statement.{statement}
+use Rattle.job_text_numbers.proofs.kernel.pattern.Tie as tie
 
 quiet-nan : ofBits binary64 0x7FF8000000000000 ≡ nan
 unfolding ofBits

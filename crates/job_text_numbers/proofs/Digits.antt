@@ -10,7 +10,7 @@ use native.Mathlib.Omega.{arith}
 use lib.Dec.{ltb}
 use lib.ListN.{length, length-append}
 use borrow.Author.Tests.{lt-ltb, le-ltb}
-use Rattle.job_text.specs.Text.{digit, digits, placesWithin, places, decimal}
+use Rattle.job_text_numbers.specs.Numbers.{digit, digits, placesWithin, places, decimal}
 
 pub digit-below-ten : (d : ℕ) → d < 10 → digit d ≡ 48 + d
 unfolding digit

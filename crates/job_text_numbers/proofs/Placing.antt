@@ -6,7 +6,7 @@ use native.Mathlib.Nat.{zero-add, add-zero, add-suc, suc-add, add-assoc}
 use native.Mathlib.Omega.{arith}
 use lib.ListN.{length, drop, set, length-append}
 use lib.Seq.{sets, length-sets, sets-eq, take-at, drop-at}
-use Rattle.job_text.specs.Placed.{Placed, PlacedSome, Begins}
+use Rattle.job_text_numbers.specs.Placed.{Placed, PlacedSome, Begins}
 
 -- nothing was written
 pub placed-none : (at : ℕ) (w : List ℕ) → Placed at [] w w at

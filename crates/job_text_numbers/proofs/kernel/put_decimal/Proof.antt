@@ -3,13 +3,13 @@ use mathlib.Core.Path.{_≡_, ap}
 use mathlib.Core.List.{List}
 use Prim.Native.Nat.{ℕ, _+_, _^_, _≤_, _<_}
 use native.Mathlib.Omega.{arith}
-use Rattle.job_text.specs.Placed.{Placed}
-use Rattle.job_text.specs.Text.{digits, places, decimal}
-use Rattle.job_text.proofs.Placing.{placed-as}
-use Rattle.job_text.proofs.Digits.{twenty, length-digits}
+use Rattle.job_text_numbers.specs.Placed.{Placed}
+use Rattle.job_text_numbers.specs.Numbers.{digits, places, decimal}
+use Rattle.job_text_numbers.proofs.Placing.{placed-as}
+use Rattle.job_text_numbers.proofs.Digits.{twenty, length-digits}
 use borrow.Author.Needs.{needs}
-use Rattle.job_text.proofs.kernel.put_decimal.Statement.{statement}
-use Rattle.job_text.proofs.kernel.put_decimal.Tie as tie
+use Rattle.job_text_numbers.proofs.kernel.put_decimal.Statement.{statement}
+use Rattle.job_text_numbers.proofs.kernel.put_decimal.Tie as tie
 
 all-places : (n k : ℕ) {at : ℕ} {w w′ : List ℕ} {next : ℕ} → n < 2 ^ 64 → k ≡ places n
     → Placed at (digits 10 k n) w w′ next

@@ -4,15 +4,15 @@ use mathlib.Core.Path.{_≡_, sym, ap, subst, _∙_}
 use Prim.Native.Nat.{ℕ, _+_, _/_, _^_, _≤_, _<_}
 use native.Mathlib.Nat.{div-lt-self, div-le-self, lt-of-le-of-lt}
 use native.Mathlib.Omega.{arith}
-use Rattle.job_text.specs.Text.{places as Text·places}
-use Rattle.job_text.proofs.Digits.{places-one, places-more, twenty}
+use Rattle.job_text_numbers.specs.Numbers.{places as Text·places}
+use Rattle.job_text_numbers.proofs.Digits.{places-one, places-more, twenty}
 use borrow.Fn.Kinds.{In}
 use borrow.Fn.PlainCycle.{Measures, is, falls, and}
-use Rattle.job_text.proofs.kernel.places.Reads as places
-use Rattle.job_text.proofs.kernel.places.Kinds as places-kinds
-use Rattle.job_text.proofs.kernel.+places.Lts-places as places-lts
-use Rattle.job_text.proofs.kernel.+places.{statement}
-use Rattle.job_text.proofs.kernel.+places.Tie.{close}
+use Rattle.job_text_numbers.proofs.kernel.places.Reads as places
+use Rattle.job_text_numbers.proofs.kernel.places.Kinds as places-kinds
+use Rattle.job_text_numbers.proofs.kernel.+places.Lts-places as places-lts
+use Rattle.job_text_numbers.proofs.kernel.+places.{statement}
+use Rattle.job_text_numbers.proofs.kernel.+places.Tie.{close}
 
 -- the recursion ends
 fewer : (n t : ℕ) → 0 < n → n ≡ t → n / 10 < t

@@ -3,13 +3,13 @@ use mathlib.Core.Path.{_≡_, refl, ap, _∙_}
 use mathlib.Core.List.{List}
 use Prim.Native.Nat.{ℕ, _+_, _^_, _<_}
 use lib.Ieee.{Float, binary64, ofBits}
-use Rattle.job_text.specs.Placed.{Placed, PlacedSome}
-use Rattle.job_text.specs.Text.{digits, hexadecimal16, RealText}
-use Rattle.job_text.proofs.Placing.{some}
-use Rattle.job_text.proofs.Digits.{length-digits}
+use Rattle.job_text_numbers.specs.Placed.{Placed, PlacedSome}
+use Rattle.job_text_numbers.specs.Numbers.{digits, hexadecimal16, RealText}
+use Rattle.job_text_numbers.proofs.Placing.{some}
+use Rattle.job_text_numbers.proofs.Digits.{length-digits}
 use borrow.Author.Needs.{needs}
-use Rattle.job_text.proofs.kernel.put_real.Statement.{statement}
-use Rattle.job_text.proofs.kernel.put_real.Tie as tie
+use Rattle.job_text_numbers.proofs.kernel.put_real.Statement.{statement}
+use Rattle.job_text_numbers.proofs.kernel.put_real.Tie as tie
 
 sixteen : (bits : ℕ) {x : Float} {at : ℕ} {w w′ : List ℕ} {next : ℕ} → bits < 2 ^ 64 → ofBits binary64 bits ≡ x
     → Placed at (digits 16 16 bits) w w′ next

@@ -7,10 +7,10 @@ use native.Mathlib.Numerals.{add-one}
 use native.Mathlib.Omega.{arith}
 use lib.ListN.{length, take, getD, set}
 use lib.Seq.{take-suc, take-length}
-use Rattle.job_text.specs.Placed.{Placed}
-use Rattle.job_text.proofs.Placing.{placed-none, placed-byte, placed-append, placed-as, length-placed}
-use Rattle.job_text.proofs.kernel.put_bytes.Statement.{statement}
-use Rattle.job_text.proofs.kernel.put_bytes.Tie as tie
+use Rattle.job_text_numbers.specs.Placed.{Placed}
+use Rattle.job_text_numbers.proofs.Placing.{placed-none, placed-byte, placed-append, placed-as, length-placed}
+use Rattle.job_text_numbers.proofs.kernel.put_bytes.Statement.{statement}
+use Rattle.job_text_numbers.proofs.kernel.put_bytes.Tie as tie
 
 module _ {at : ℕ} (bytes : List ℕ) {j : ℕ} {w w′ : List ℕ} (written : Placed at (take j bytes) w w′ (at + j)) where
   -- a turn's byte behind the first j
