@@ -1,11 +1,8 @@
 // Reading a stored list of test cases from standard input. lists/README.md has the format: each case is its kind in 2 bytes, the length of
-// the rest in 4, and that many bytes of fields; all numbers are little-endian. Reads past the end of a case give 0.
-// `fields` reads what a case holds, and `answer` compares it with what a call answered and wrote.
+// the rest in 4, and that many bytes of fields; all numbers are little-endian.
+// `replay_fields` reads what a case holds, and `replay_answers` compares it with what a call answered and wrote.
 use little_endian::kernel::word16;
 use little_endian::kernel::word32;
-
-pub mod answer;
-pub mod fields;
 
 // A case whose fields stand at the start of the buffer; or the list's end; or the point at which it is no list.
 pub enum Case {

@@ -1,15 +1,13 @@
 // Replays a stored list of jobs: each is run again, and the text is compared with the one expected in every byte, except that the digits
 // of any NaN match those of any NaN.
-use crate::texts::are_alike;
 use job_run::run_job;
 use job_text::TEXT;
 use replay::Case;
 use replay::Tally;
-use replay::fields::further;
-use replay::fields::number32;
 use replay::next_case;
-
-mod texts;
+use replay_fields::further;
+use replay_fields::number32;
+use replay_texts::are_alike;
 
 // Whether a text is the one with which the case ends from a position on.
 fn text_right(text: &[u8], fields: &[u8], at: usize) -> bool {

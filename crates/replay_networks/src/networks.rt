@@ -4,18 +4,18 @@ use graph::Bounded;
 use graph::apply_into_slice;
 use graph::from_csr_parts;
 use graph::gershgorin_bound_csr;
-use replay::answer::Answer;
-use replay::answer::after_answer;
-use replay::answer::answer_at;
-use replay::answer::is_acceptance;
-use replay::answer::is_checked;
-use replay::answer::is_refusal;
-use replay::answer::written_right;
-use replay::fields::ends;
-use replay::fields::further;
-use replay::fields::number64;
-use replay::fields::read_parts;
-use replay::fields::read_reals;
+use replay_answers::Answer;
+use replay_answers::after_answer;
+use replay_answers::answer_at;
+use replay_answers::is_acceptance;
+use replay_answers::is_checked;
+use replay_answers::is_refusal;
+use replay_answers::written_right;
+use replay_fields::ends;
+use replay_fields::further;
+use replay_fields::number64;
+use replay_fields::read_parts;
+use replay_fields::read_reals;
 
 // Whether `from_csr_parts` answers what stands at a position.
 fn parts_right(

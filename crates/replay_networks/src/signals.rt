@@ -2,10 +2,10 @@
 use float::bits::from_bits;
 use graph_signal::axpy_into_slice;
 use graph_signal::copy_from;
-use replay::answer::written_right;
-use replay::fields::further;
-use replay::fields::number64;
-use replay::fields::read_reals;
+use replay_answers::written_right;
+use replay_fields::further;
+use replay_fields::number64;
+use replay_fields::read_reals;
 
 // Whether `copy_from`, at kind 5, or else `axpy_into_slice` answers and writes what stands at a position.
 fn call_right(

@@ -1,16 +1,16 @@
 // The lookup of a segment: kinds 12 and, with breakpoints by rules, 16.
-use crate::trajectory::read_breakpoints;
 use float::bits::from_bits;
 use graph_traj::Located;
 use graph_traj::segment_index;
-use replay::answer::Answer;
-use replay::answer::after_answer;
-use replay::answer::answer_at;
-use replay::answer::is_acceptance;
-use replay::answer::is_refusal;
-use replay::fields::ends;
-use replay::fields::further;
-use replay::fields::number64;
+use replay_answers::Answer;
+use replay_answers::after_answer;
+use replay_answers::answer_at;
+use replay_answers::is_acceptance;
+use replay_answers::is_refusal;
+use replay_fields::ends;
+use replay_fields::further;
+use replay_fields::number64;
+use replay_trajectories::read_breakpoints;
 
 // Whether what `segment_index` answered is expected: the segment of that index, where the acceptance is.
 fn is_located(expected: Answer, index: u64, located: Located) -> bool {

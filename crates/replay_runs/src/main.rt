@@ -8,9 +8,7 @@ use replay::next_case;
 
 mod lookups;
 mod numbers;
-mod rules;
 mod runs;
-mod trajectory;
 mod weighted_runs;
 
 // A case of a kind, counted as right or wrong: whether its call does what the case says.

@@ -2,8 +2,8 @@
 use crate::weighted_runs::is_weighted;
 use float::bits::from_bits;
 use little_endian::kernel::byte;
-use replay::fields::further;
-use replay::fields::number64;
+use replay_fields::further;
+use replay_fields::number64;
 
 // Whether the runs of a kind go forward.
 pub fn is_forward(kind: u64) -> bool {

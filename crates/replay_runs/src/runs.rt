@@ -2,31 +2,31 @@
 // every slice that a case of 65,536 bytes can have, or that the rules of the list give. A forward run has no τ, and an unweighted run has
 // no weights; neither call takes them.
 ghost use Prim.Native.Nat.{_≤_};
-ghost use Rattle.replay.specs.Counts.{Counts};
+ghost use Rattle.replay_fields.specs.Counts.{Counts};
 use crate::numbers::Numbers;
 use crate::numbers::is_forward;
 use crate::numbers::numbers_at;
-use crate::rules::by_rules;
-use crate::rules::pool_length;
-use crate::rules::repeat_real;
-use crate::trajectory::read_breakpoints;
-use crate::trajectory::read_elements;
-use crate::trajectory::read_laws;
-use crate::trajectory::read_pattern;
 use crate::weighted_runs::is_weighted;
 use crate::weighted_runs::read_weights;
 use crate::weighted_runs::weighted_run;
 use error::Checked;
 use magnus_graph_traj::evolve_state_adjoint_into;
 use magnus_graph_traj::evolve_with_traj_into;
-use replay::answer::Answer;
-use replay::answer::answer_at;
-use replay::answer::work_right;
-use replay::answer::written_right;
-use replay::fields::Slice;
-use replay::fields::further;
-use replay::fields::number64;
-use replay::fields::read_reals;
+use replay_answers::Answer;
+use replay_answers::answer_at;
+use replay_answers::work_right;
+use replay_answers::written_right;
+use replay_fields::Slice;
+use replay_fields::further;
+use replay_fields::number64;
+use replay_fields::read_reals;
+use replay_rules::by_rules;
+use replay_rules::pool_length;
+use replay_rules::repeat_real;
+use replay_trajectories::read_breakpoints;
+use replay_trajectories::read_elements;
+use replay_trajectories::read_laws;
+use replay_trajectories::read_pattern;
 
 const MOST_NODES: usize = 4096;
 

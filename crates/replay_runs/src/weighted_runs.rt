@@ -1,8 +1,8 @@
 // What weighted adjoint runs, kinds 15 and, by rules, 19, have beside the others: node weights, and a call that takes them.
-ghost use Rattle.replay.specs.Counts.{Counts};
-use crate::trajectory::read_elements;
+ghost use Rattle.replay_fields.specs.Counts.{Counts};
 use error::Checked;
-use replay::fields::Slice;
+use replay_fields::Slice;
+use replay_trajectories::read_elements;
 use varcoef_magnus_graph_adjoint::evolve_state_adjoint_into;
 
 // Whether the runs of a kind have node weights.

@@ -1,7 +1,7 @@
 // What the step of order 6, kind 11, has beside the others: a third sample.
-ghost use Rattle.replay.specs.Counts.{Counts};
-use replay::fields::Parts;
-use replay::fields::read_parts;
+ghost use Rattle.replay_fields.specs.Counts.{Counts};
+use replay_fields::Parts;
+use replay_fields::read_parts;
 
 // Whether the steps of a kind have three samples.
 pub fn has_three_samples(kind: u64) -> bool {

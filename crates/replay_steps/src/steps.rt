@@ -12,14 +12,14 @@ use little_endian::kernel::byte;
 use magnus_graph::apply_exp_omega4_adj_kernel;
 use magnus_graph::apply_exp_omega4_kernel;
 use magnus6_graph::apply_exp_omega6_kernel;
-use replay::answer::answer_at;
-use replay::answer::is_acceptance;
-use replay::answer::work_right;
-use replay::answer::written_right;
-use replay::fields::further;
-use replay::fields::number64;
-use replay::fields::read_parts;
-use replay::fields::read_reals;
+use replay_answers::answer_at;
+use replay_answers::is_acceptance;
+use replay_answers::work_right;
+use replay_answers::written_right;
+use replay_fields::further;
+use replay_fields::number64;
+use replay_fields::read_parts;
+use replay_fields::read_reals;
 
 // The most elements that a work slice of the list has.
 const MOST_WORK: usize = 24576;

@@ -1,9 +1,9 @@
 // What weighted steps of order 4, kinds 9 (forward) and 10 (adjoint), have beside the others: node weights, and calls
 // that take them.
-ghost use Rattle.replay.specs.Counts.{Counts};
+ghost use Rattle.replay_fields.specs.Counts.{Counts};
 use error::Checked;
-use replay::fields::Slice;
-use replay::fields::read_reals;
+use replay_fields::Slice;
+use replay_fields::read_reals;
 use varcoef_magnus_graph::apply_exp_omega4_la_adj_kernel;
 use varcoef_magnus_graph::apply_exp_omega4_la_kernel;
 
