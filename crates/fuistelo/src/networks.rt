@@ -3,7 +3,7 @@ ghost use mathlib.Core.Path.{_≡_};
 ghost use mathlib.Core.List.{[], _∷_};
 ghost use lib.Ieee.{binary64};
 ghost use Rattle.error.specs.Refusals.{real, Answers};
-ghost use Rattle.graph_rows.specs.Gershgorin.{gershgorinBound};
+ghost use Rattle.graph_bound.specs.Gershgorin.{gershgorinBound};
 ghost use Rattle.graph_checks.specs.PatternChecks.{patternFault, csrFault};
 ghost use Rattle.graph.specs.ProductOutcome.{productOutcome};
 ghost use Rattle.graph_signal.specs.Outcome.{copyOutcome, sumOutcome};

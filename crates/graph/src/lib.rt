@@ -4,7 +4,7 @@ ghost use mathlib.Core.Path.{_≡_};
 ghost use lib.Ieee.{binary64};
 ghost use Rattle.error.specs.Refusals.{Answers};
 ghost use Rattle.graph_checks.specs.PatternChecks.{csrFault};
-ghost use Rattle.graph_rows.specs.Gershgorin.{gershgorinBound};
+ghost use Rattle.graph_bound.specs.Gershgorin.{gershgorinBound};
 ghost use Rattle.graph.specs.BoundAnswer.{BoundAnswers};
 ghost use Rattle.graph.specs.ProductOutcome.{productOutcome};
 use error::Checked;
@@ -28,7 +28,7 @@ pub fn gershgorin_bound_csr(n: usize, row_ptr: &[usize], col_idx: &[u32], vals: 
 {
     let checked = from_csr_parts(n, row_ptr, col_idx, vals);
     let Checked::Refused(refusal) = checked else {
-        return Bounded::Bound(graph_rows::kernel::gershgorin(row_ptr, vals));
+        return Bounded::Bound(graph_bound::kernel::gershgorin(row_ptr, vals));
     };
     Bounded::Refused(refusal)
 }

@@ -1,2 +1,1 @@
 pub mod RowProduct
-pub mod Gershgorin

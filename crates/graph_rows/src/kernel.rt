@@ -1,11 +1,9 @@
-// The row product and the Gershgorin bound of a Laplacian, for callers that have checked its pattern.
+// The row product of a Laplacian, for callers that have checked its pattern.
 ghost use mathlib.Core.Path.{_≡_};
-ghost use Prim.Native.Nat.{_-_, _<_};
+ghost use Prim.Native.Nat.{_<_};
 ghost use lib.ListN.{length};
-ghost use lib.Ieee.{binary64};
-ghost use Rattle.graph_checks.specs.Pattern.{Rows, Pattern};
+ghost use Rattle.graph_checks.specs.Pattern.{Pattern};
 ghost use Rattle.graph_rows.specs.RowProduct.{rowSum64, rowProduct64};
-ghost use Rattle.graph_rows.specs.Gershgorin.{rowAbsoluteSum, gershgorinBound};
 
 // Row i of the product with src (01, part 1): it starts at +0 and adds value * signal[column] in stored order. Every
 // product goes through this function. The whole pattern is required: n is at most 4,096, and every column is below n.
@@ -36,35 +34,4 @@ pub fn product(row_ptr: &[usize], col_idx: &[u32], vals: &[f64], src: &[f64], ou
     for i in 0..src.len() {
         out[i] = row_sum(row_ptr, col_idx, vals, src, i);
     }
-}
-
-// The sum of the absolute values of row i, each formed as 0 - v where v is below 0.
-fn row_absolute_sum(row_ptr: &[usize], vals: &[f64], i: usize) -> f64
-    requires { ⌜ Rows (length (now «row_ptr») - 1) (now «row_ptr») (length (now vals)) ⌝ }
-    requires { ⌜ i < length (now «row_ptr») - 1 ⌝ }
-    ensures { λ r. ⌜ r ≡ rowAbsoluteSum binary64 (now («row_ptr» .entry)) (now (vals .entry)) i ⌝ }
-{
-    let mut row_sum = 0.0;
-    for k in row_ptr[i]..row_ptr[i + 1] {
-        let v = vals[k];
-        let av = if v < 0.0 { 0.0 - v } else { v };
-        row_sum = row_sum + av;
-    }
-    row_sum
-}
-
-// The largest sum of absolute values over the rows (01, part 2; `gershgorin_bound_csr` of the Rust).
-pub fn gershgorin(row_ptr: &[usize], vals: &[f64]) -> f64
-    requires { ⌜ Rows (length (now «row_ptr») - 1) (now «row_ptr») (length (now vals)) ⌝ }
-    ensures { λ r. ⌜ r ≡ gershgorinBound binary64 (now («row_ptr» .entry)) (now (vals .entry)) ⌝ }
-{
-    let n = row_ptr.len() - 1;
-    let mut max_sum = 0.0;
-    for i in 0..n {
-        let row_sum = row_absolute_sum(row_ptr, vals, i);
-        if row_sum > max_sum {
-            max_sum = row_sum;
-        }
-    }
-    max_sum
 }

@@ -1,2 +1,2 @@
-// Sums over the rows of a Laplacian (graph.rs, graph_assemble_helpers.rs): the row product and the Gershgorin bound.
+// Sums over the rows of a Laplacian (graph.rs): the row product.
 pub mod kernel;

@@ -12,7 +12,7 @@ use lib.Ieee.Fits.{down-pos, and-l, and-r}
 use lib.Ieee.Positive.{first-pos}
 use lib.Ieee.Scale.{finite}
 use borrow.Author.Tests.{ltb-false, eqb-false, lt-ltb, eq-eqb}
-use Rattle.graph_rows.proofs.Less.{less-irreflexive, less-transitive}
+use Rattle.graph_bound.proofs.Less.{less-irreflexive, less-transitive}
 
 -- ---- tests that hold
 

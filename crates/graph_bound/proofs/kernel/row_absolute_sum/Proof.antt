@@ -1,4 +1,4 @@
--- `graph_rows::kernel::row_absolute_sum` meets its contract. The loop's invariant: row_sum is the sum of the absolute values
+-- `graph_bound::kernel::row_absolute_sum` meets its contract. The loop's invariant: row_sum is the sum of the absolute values
 -- of the row's entries before entry k. Assumes nothing.
 use mathlib.Core.Path.{_≡_, sym, ap, _∙_}
 use mathlib.Core.Logic.{⊎-elim}
@@ -6,11 +6,11 @@ use Prim.Native.Nat.{_+_, _-_, _≤_, _<_}
 use native.Mathlib.Omega.{arith}
 use lib.ListN.{length, getD}
 use lib.Ieee.{binary64, nan}
-use Rattle.graph_rows.specs.Gershgorin.{absolute, absoluteSum, rowAbsoluteSum}
+use Rattle.graph_bound.specs.Gershgorin.{absolute, absoluteSum, rowAbsoluteSum}
 use Rattle.graph_rows.proofs.RowEntries.{entry-stored}
-use Rattle.graph_rows.proofs.Gershgorin.{absolute-below, absolute-not-below, absolute-sum-none, absolute-sum-next}
-use Rattle.graph_rows.proofs.kernel.row_absolute_sum.Statement.{statement}
-use Rattle.graph_rows.proofs.kernel.row_absolute_sum.Tie as tie
+use Rattle.graph_bound.proofs.Gershgorin.{absolute-below, absolute-not-below, absolute-sum-none, absolute-sum-next}
+use Rattle.graph_bound.proofs.kernel.row_absolute_sum.Statement.{statement}
+use Rattle.graph_bound.proofs.kernel.row_absolute_sum.Tie as tie
 
 abbrev Inv-loop : tie.InvT-loop
 Inv-loop row-ptr vals i row-sum₀ k₀ k-end row-sum k =

@@ -1,4 +1,4 @@
--- `graph_rows::kernel::gershgorin` meets its contract. The loop's invariant: max_sum is the largest of +0 and the sums of
+-- `graph_bound::kernel::gershgorin` meets its contract. The loop's invariant: max_sum is the largest of +0 and the sums of
 -- the rows before row i. Assumes nothing.
 use mathlib.Core.Path.{_≡_, sym, ap, _∙_}
 use mathlib.Core.Logic.{⊎-elim}
@@ -6,10 +6,10 @@ use Prim.Native.Nat.{_-_, _≤_}
 use native.Mathlib.Omega.{arith}
 use lib.ListN.{length}
 use lib.Ieee.{binary64}
-use Rattle.graph_rows.specs.Gershgorin.{rowAbsoluteSum, larger, largestTo, gershgorinBound}
-use Rattle.graph_rows.proofs.Gershgorin.{larger-first, larger-second, largest-none, largest-next}
-use Rattle.graph_rows.proofs.kernel.gershgorin.Statement.{statement}
-use Rattle.graph_rows.proofs.kernel.gershgorin.Tie as tie
+use Rattle.graph_bound.specs.Gershgorin.{rowAbsoluteSum, larger, largestTo, gershgorinBound}
+use Rattle.graph_bound.proofs.Gershgorin.{larger-first, larger-second, largest-none, largest-next}
+use Rattle.graph_bound.proofs.kernel.gershgorin.Statement.{statement}
+use Rattle.graph_bound.proofs.kernel.gershgorin.Tie as tie
 
 abbrev Inv-loop : tie.InvT-loop
 Inv-loop row-ptr vals n max-sum₀ i₀ max-sum i =

@@ -19,9 +19,9 @@ use Rattle.rounding.proofs.ExactRounding.{zero-numerator}
 use Rattle.rounding.proofs.Same.{same-refl, same-equal, same-trans}
 use Rattle.rounding.proofs.Zeros.{add-zero-left}
 use Rattle.arithmetic.specs.Arithmetic.{ieee, ieee-zero}
-use Rattle.graph_rows.specs.Gershgorin.{absolute, larger, largestTo, rowAbsoluteSum, gershgorinBound}
-use Rattle.graph_rows.proofs.Gershgorin.{larger-first, larger-second, absolute-below, absolute-not-below}
-use Rattle.graph_rows.proofs.Less.{less-irreflexive, less-transitive}
+use Rattle.graph_bound.specs.Gershgorin.{absolute, larger, largestTo, rowAbsoluteSum, gershgorinBound}
+use Rattle.graph_bound.proofs.Gershgorin.{larger-first, larger-second, absolute-below, absolute-not-below}
+use Rattle.graph_bound.proofs.Less.{less-irreflexive, less-transitive}
 
 -- ---- the larger of two values
 

@@ -11,7 +11,7 @@ use lib.Ieee.{Float, Format, lt}
 use Rattle.arithmetic.specs.Arithmetic.{Arithmetic, ieee, at}
 use Rattle.arithmetic.specs.Product.{sumTo}
 use Rattle.arithmetic.proofs.Product.{sum-next}
-use Rattle.graph_rows.specs.Gershgorin.{absolute, absoluteSum, larger, largestTo}
+use Rattle.graph_bound.specs.Gershgorin.{absolute, absoluteSum, larger, largestTo}
 
 -- the larger of two values, by the comparison's answer
 module _ (x y : Float) where

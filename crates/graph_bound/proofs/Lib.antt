@@ -1,0 +1,3 @@
+pub mod Gershgorin
+pub mod Less
+pub mod GershgorinBound
