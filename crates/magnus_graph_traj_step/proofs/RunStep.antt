@@ -15,8 +15,7 @@ use Rattle.arithmetic.specs.Arithmetic.{Arithmetic, ieee}
 use Rattle.arithmetic.specs.Product.{plusScaled}
 use Rattle.arithmetic.proofs.Tabulate.{length-tabulate}
 use Rattle.scratch.specs.Parts.{part, put}
-use Rattle.scratch.proofs.Parts.{Wrote, wrote, length-part, getD-part, length-put, part-of-put, part-of-put-before}
-use Rattle.scratch.proofs.Parts.{part-of-put-after, drop-of-put}
+use Rattle.scratch.proofs.Parts.{Wrote, wrote, length-part, getD-part, part-of-put-before, part-of-put-after}
 use Rattle.error.specs.declared.Refusal.{Refusal}
 use Rattle.error.specs.declared.Checked.{Checked}
 use Rattle.error.specs.declared.Checked.the-variants.{Accepted, Refused}
@@ -25,12 +24,11 @@ use Rattle.error.proofs.Checks.{accepted-then}
 use Rattle.graph_rows.specs.RowProduct.{rowSum64, rowProduct64}
 use Rattle.graph_checks.proofs.First.{accepts-none}
 use Rattle.graph_pairs.specs.Pairs.{pairs, firsts, seconds}
-use Rattle.graph_pairs.proofs.Pairs.{firsts-of-pairs, seconds-of-pairs}
+use Rattle.graph_pairs.proofs.Term.{term-of-pairs}
 use Rattle.magnus.specs.Operators.{Operator, omega4}
 use Rattle.magnus.specs.Coefficients.{reciprocalFactorial}
-use Rattle.magnus_graph_helpers.specs.Terms.{omega4Sum, omega4-sum, TermAdded, TermsAdded}
+use Rattle.magnus_graph_helpers.specs.Terms.{omega4Sum, TermAdded, TermsAdded}
 use Rattle.magnus_graph_checks.proofs.StepSound.{refused-not-accepted}
-use Rattle.magnus_graph_helpers.proofs.Terms.{term-added}
 use Rattle.magnus_graph.specs.Omega4.{sqrt3Over12}
 use Rattle.magnus_graph_step.specs.Omega4.{expOmega4}
 use Rattle.graph_traj_segment.specs.Laws.{lawValues, byLaw, valuesAt}
@@ -82,48 +80,33 @@ module _ (n : ℕ) (rowStarts cols : List ℕ) where
     size : length written ≡ 2 * n
     size = length-tabulate _ (2 * n)
 
-    here : part (2 * n) (2 * n) w₁ ≡ written
-    here = ap (part (2 * n) (2 * n)) products ∙ part-of-put (2 * n) (2 * n) written w size (omega arith)
-
     values-kept : part (7 * n) (2 * length cols) w₁ ≡ part (7 * n) (2 * length cols) w
     values-kept =
         ap (part (7 * n) (2 * length cols)) products
         ∙ part-of-put-after (2 * n) written w (7 * n) (2 * length cols) (omega (arith, size))
 
-    a : seconds A n (part (2 * n) (2 * n) w₁) ≡ product1 w (part n n w)
-    a = ap (seconds A n) here ∙ seconds-of-pairs A n _ _
+    abbrev a : List Float
+    a = seconds A n (part (2 * n) (2 * n) w₁)
 
-    b : firsts A n (part (2 * n) (2 * n) w₁) ≡ product2 w (part n n w)
-    b = ap (firsts A n) here ∙ firsts-of-pairs A n _ _
+    abbrev b : List Float
+    b = firsts A n (part (2 * n) (2 * n) w₁)
 
-    abbrev formed : List Float
-    formed =
-        let a₁ = seconds A n (part (2 * n) (2 * n) w₁) in
-        let b₁ = firsts A n (part (2 * n) (2 * n) w₁) in
-        omega4Sum A n (A ._*_ minusHalf τ) (A ._*_ (A ._*_ (A ._*_ sign sqrt3Over12) τ) τ) a₁ b₁ (product2 w₁ a₁) (product1 w₁ b₁)
+    -- Ωv of them, from the products with a and b
+    abbrev formed : List Float → List Float → List Float
+    formed = omega4Sum A n (A ._*_ minusHalf τ) (A ._*_ (A ._*_ (A ._*_ sign sqrt3Over12) τ) τ) a b
 
-    formula : formed ≡ sampledOmega sign τ w (part n n w)
-    formula =
-        (λ i.
-        omega4Sum A n (A ._*_ minusHalf τ) (A ._*_ (A ._*_ (A ._*_ sign sqrt3Over12) τ) τ) (a i) (b i)
-        (rowProduct64 n rowStarts cols (seconds A (length cols) (values-kept i)) (a i))
-        (rowProduct64 n rowStarts cols (firsts A (length cols) (values-kept i)) (b i)))
-        ∙ omega4-sum A n minusHalf sqrt3Over12 sign τ (product1 w) (product2 w) (part n n w)
-
-    length-formed : length formed ≡ n
-    unfolding omega4Sum
-    length-formed = length-tabulate _ n
-
-    pub term-of-pairs : (coefficient : Float) (w₂ w′ : List Float)
-        → w₂ ≡ put n formed w₁
+    pub term-of-samples : (coefficient : Float) (w₂ w′ : List Float)
+        → w₂ ≡ put n (formed (product2 w₁ a) (product1 w₁ b)) w₁
         → w′ ≡ put 0 (plusScaled A n (part 0 n w₂) coefficient (part n n w₂)) w₂
         → TermAdded A n (7 * n) (sampledOmega sign τ w) coefficient w w′
-    term-of-pairs coefficient w₂ w′ image sum =
-        term-added A n (7 * n) (sampledOmega sign τ w) coefficient formed w w₁ w₂ w′ (omega arith) (omega arith) formula length-formed
-        (ap (part 0 n) products ∙ part-of-put-before (2 * n) written w 0 n (omega arith))
-        (ap length products ∙ length-put (2 * n) written w)
-        (λ k h. ap (drop k) products ∙ drop-of-put (2 * n) written w k (omega (arith, size)))
-        image sum
+    term-of-samples coefficient w₂ w′ image sum =
+        let same : put n (formed (product2 w₁ a) (product1 w₁ b)) w₁ ≡ put n (formed (product2 w a) (product1 w b)) w₁ =
+        λ i.
+        put n
+        (formed (rowProduct64 n rowStarts cols (seconds A (length cols) (values-kept i)) a)
+        (rowProduct64 n rowStarts cols (firsts A (length cols) (values-kept i)) b)) w₁ in
+        term-of-pairs A n (7 * n) minusHalf sqrt3Over12 sign τ (product1 w) (product2 w) _ _ w w₁ (omega arith) (omega arith) refl refl
+        products coefficient w₂ w′ (image ∙ same) sum
 
 module _ (n : ℕ) where
   -- a term, or terms, of an operator are those of the same operator

@@ -1,7 +1,7 @@
 -- `sampled_term` meets its contract: the first walk forms both products with v, the second Ωv of them over v, and then the coefficient
 -- times Ωv is added to the sum; both samples' values lie behind all of these. Assumes nothing.
 use lib.Ieee.{ofBits, neg}
-use Rattle.magnus_graph_traj_step.proofs.RunStep.{term-of-pairs}
+use Rattle.magnus_graph_traj_step.proofs.RunStep.{term-of-samples}
 use borrow.Author.Needs.{needs}
 use Rattle.magnus_graph_traj_step.proofs.kernel.sampled_term.Statement.{statement}
 use Rattle.magnus_graph_traj_step.proofs.kernel.sampled_term.Tie as tie
@@ -29,7 +29,7 @@ unfolding ofBits neg
 returns c =
     let start = c .before .before .before .before .before .before .before .before .before .before .before .before .before .before .before in
     let args = start .args in
-    term-of-pairs (args .n) (args .row-ptr .now) (args .col-idx .now) (args .sign) (args .tau) (args .work .now) _ (start .pre .1)
+    term-of-samples (args .n) (args .row-ptr .now) (args .col-idx .now) (args .sign) (args .tau) (args .work .now) _ (start .pre .1)
     (c .before .before .before .before .before .before .before .before .before .before .products-in .ensures) (args .coefficient) _ _ (c .before .before .before .before .before .before .omega-in .ensures)
     (c .before .before .add-scaled .ensures)
 
