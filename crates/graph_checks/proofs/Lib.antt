@@ -1,3 +1,2 @@
 pub mod First
 pub mod Sound
-pub mod Walk

@@ -3,45 +3,21 @@
 -- Assumes nothing.
 use mathlib.Core.Bool.{Bool, not}
 use mathlib.Core.List.{List}
-use Prim.Native.Nat.{ℕ, _+_}
-use lib.Dec.{leb, ltb}
+use Prim.Native.Nat.{ℕ}
 use lib.ListN.{length, getD}
 use lib.Ieee.{Float, nan}
 use lib.Ieee.Scale.{finite}
-use Rattle.error.specs.Checks.{refuseIf, refuseUnequal, next}
-use Rattle.error.specs.declared.Refusal.the-variants.{RowStartCount, RowStartFalls, EntryCount, Column, Value, Size}
+use Rattle.error.specs.Checks.{next}
+use Rattle.error.specs.declared.Refusal.the-variants.{Value}
 use Rattle.error.specs.declared.Checked.{Checked}
 use Rattle.graph_checks.specs.First.{refuseFirst}
+-- the checks of the row starts and of the columns, as the crates above name them
+unfoldable pub use Rattle.graph_shape.specs.ShapeChecks.{sizeFault, rowStartCountFault, rowStartsFault, entryCountFault, shapeFault}
+pub use Rattle.graph_shape.specs.ShapeChecks.{fallsAt}
+unfoldable pub use Rattle.graph_columns.specs.ColumnChecks.{columnFault}
+pub use Rattle.graph_columns.specs.ColumnChecks.{outsideAt}
 
--- ---- the rows of the table
-
--- row 6: n > 4,096, else columns > 65,535
-unfoldable pub sizeFault : ℕ → ℕ → Checked
-sizeFault n columns = next (refuseIf (ltb 4096 n) (Size n)) (refuseIf (ltb 65535 columns) (Size columns))
-
--- row 1: the count of row starts is not n + 1
-unfoldable pub rowStartCountFault : ℕ → ℕ → Checked
-rowStartCountFault n count = refuseUnequal count (n + 1) (RowStartCount count)
-
--- row i's start exceeds the next
-abbrev pub fallsAt : List ℕ → ℕ → Bool
-fallsAt starts i = ltb (getD starts (i + 1) 0) (getD starts i 0)
-
--- row 2: the first i whose start exceeds the next
-unfoldable pub rowStartsFault : ℕ → List ℕ → Checked
-rowStartsFault n starts = refuseFirst (fallsAt starts) n RowStartFalls
-
--- row 3: the columns, or the values, are not as many as the last row start says
-unfoldable pub entryCountFault : ℕ → ℕ → Checked
-entryCountFault count last = refuseUnequal count last (EntryCount last)
-
--- entry k's column is n or more
-abbrev pub outsideAt : ℕ → List ℕ → ℕ → Bool
-outsideAt n cols k = leb n (getD cols k 0)
-
--- row 4: the first column that is n or more
-unfoldable pub columnFault : ℕ → List ℕ → Checked
-columnFault n cols = refuseFirst (outsideAt n cols) (length cols) (λ k. Column (getD cols k 0))
+-- ---- row 5 of the table
 
 -- entry k's value is not finite
 abbrev pub notFiniteAt : List Float → ℕ → Bool
@@ -52,14 +28,6 @@ unfoldable pub valueFault : List Float → Checked
 valueFault vals = refuseFirst (notFiniteAt vals) (length vals) (λ k. Value (getD vals k nan))
 
 -- ---- their order
-
--- 6, 1, 2, and 3 for the columns
-unfoldable pub shapeFault : ℕ → List ℕ → ℕ → Checked
-shapeFault n starts columns =
-    next (sizeFault n columns)
-    (next (rowStartCountFault n (length starts))
-    (next (rowStartsFault n starts)
-    (entryCountFault columns (getD starts n 0))))
 
 -- a pattern: 6, 1, 2, 3, 4
 unfoldable pub patternFault : ℕ → List ℕ → List ℕ → Checked

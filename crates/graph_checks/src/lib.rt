@@ -3,6 +3,9 @@
 ghost use Rattle.error.specs.Refusals.{Answers};
 ghost use Rattle.graph_checks.specs.PatternChecks.{patternFault, csrFault};
 use error::Checked;
+use graph_columns::kernel::check_columns;
+use graph_shape::check_entry_count;
+use graph_shape::check_shape;
 
 mod check;
 
@@ -11,15 +14,15 @@ mod check;
 pub fn from_csr_parts(n: usize, row_ptr: &[usize], col_idx: &[u32], vals: &[f64]) -> Checked
     ensures { λ r. ⌜ Answers r (csrFault n (now («row_ptr» .entry)) (now («col_idx» .entry)) (now (vals .entry))) ⌝ }
 {
-    let shape = check::check_shape(n, row_ptr, col_idx.len());
+    let shape = check_shape(n, row_ptr, col_idx.len());
     let Checked::Accepted = shape else {
         return shape;
     };
-    let count = check::check_entry_count(vals.len(), row_ptr[n]);
+    let count = check_entry_count(vals.len(), row_ptr[n]);
     let Checked::Accepted = count else {
         return count;
     };
-    let columns = check::check_columns(n, row_ptr, col_idx);
+    let columns = check_columns(n, row_ptr, col_idx);
     let Checked::Accepted = columns else {
         return columns;
     };
@@ -30,9 +33,9 @@ pub fn from_csr_parts(n: usize, row_ptr: &[usize], col_idx: &[u32], vals: &[f64]
 pub fn check_pattern(n: usize, row_ptr: &[usize], col_idx: &[u32]) -> Checked
     ensures { λ r. ⌜ Answers r (patternFault n (now («row_ptr» .entry)) (now («col_idx» .entry))) ⌝ }
 {
-    let shape = check::check_shape(n, row_ptr, col_idx.len());
+    let shape = check_shape(n, row_ptr, col_idx.len());
     let Checked::Accepted = shape else {
         return shape;
     };
-    check::check_columns(n, row_ptr, col_idx)
+    check_columns(n, row_ptr, col_idx)
 }

@@ -4,7 +4,7 @@ use borrow.Author.Needs.{needs}
 use Rattle.error.proofs.Checks.{refused-here, accepted-then}
 use Rattle.error.proofs.Left.{answers}
 use Rattle.graph_checks.specs.PatternChecks.{patternFault}
-use Rattle.graph_checks.proofs.Sound.{shape-accepted}
+use Rattle.graph_shape.proofs.Sound.{shape-accepted}
 use Rattle.graph_checks.proofs.check_pattern.Statement.{statement}
 use Rattle.graph_checks.proofs.check_pattern.Tie as tie
 

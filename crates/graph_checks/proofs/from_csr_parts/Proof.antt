@@ -9,7 +9,7 @@ use Rattle.error.proofs.Checks.{refused-here, accepted-then}
 use Rattle.error.proofs.Left.{answers}
 use Rattle.graph_checks.specs.Pattern.{Rows}
 use Rattle.graph_checks.specs.PatternChecks.{csrFault}
-use Rattle.graph_checks.proofs.Sound.{shape-accepted, rows-of-values}
+use Rattle.graph_shape.proofs.Sound.{shape-accepted, rows-of-values}
 use Rattle.graph_checks.proofs.from_csr_parts.Statement.{statement}
 use Rattle.graph_checks.proofs.from_csr_parts.Tie as tie
 

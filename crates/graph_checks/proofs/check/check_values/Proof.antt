@@ -11,7 +11,7 @@ use borrow.Author.Needs.{needs}
 use Rattle.float.specs.All.{all}
 use Rattle.graph_checks.specs.First.{first}
 use Rattle.graph_checks.specs.PatternChecks.{notFiniteAt, valueFault}
-use Rattle.graph_checks.proofs.First.{none-fails, some-fails, refuses-first, accepts-none}
+use Rattle.graph_shape.proofs.First.{none-fails, some-fails, refuses-first, accepts-none}
 use Rattle.graph_checks.proofs.check.check_values.Statement.{statement}
 use Rattle.graph_checks.proofs.check.check_values.Tie as tie
 

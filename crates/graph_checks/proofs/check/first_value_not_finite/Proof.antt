@@ -7,8 +7,8 @@ use native.Mathlib.Omega.{arith}
 use lib.ListN.{length}
 use borrow.Author.Needs.{needs}
 use Rattle.graph_checks.specs.PatternChecks.{notFiniteAt}
-use Rattle.graph_checks.proofs.First.{Passed, passed-none, passed-more, passed-found, passed-all}
-use Rattle.graph_checks.proofs.Walk.{Reached, reached-none, reached-more, reached-all, stored}
+use Rattle.graph_shape.proofs.First.{Passed, passed-none, passed-more, passed-found, passed-all}
+use Rattle.graph_shape.proofs.Walk.{Reached, reached-none, reached-more, reached-all, stored}
 use Rattle.graph_checks.proofs.check.first_value_not_finite.Statement.{statement}
 use Rattle.graph_checks.proofs.check.first_value_not_finite.Tie as tie
 

@@ -1,0 +1,2 @@
+// The check of a Laplacian's columns (graph.rs): row 4 of document 01's table.
+pub mod kernel;

@@ -1,0 +1,81 @@
+-- `graph_shape::check_row_starts` meets its contract. The loop's invariant: no start before row i exceeds the next.
+-- Assumes nothing.
+use Prim.Native.Nat.{_<_, _+_, _-_}
+use native.Mathlib.Omega.{arith}
+use lib.ListN.{length}
+use borrow.Author.Needs.{needs}
+use borrow.Author.Tests.{lt-ltb, le-ltb}
+use Rattle.graph_shape.specs.ShapeChecks.{fallsAt, rowStartsFault}
+use Rattle.graph_shape.proofs.First.{Passed, passed-none, passed-more, passed-found, refuses-first, accepts-none}
+use Rattle.graph_shape.proofs.check_row_starts.Statement.{statement}
+use Rattle.graph_shape.proofs.check_row_starts.Tie as tie
+
+abbrev Inv-loop : tie.InvT-loop
+Inv-loop n row-ptr i₀ i = Passed (fallsAt row-ptr) n i
+
+abbrev μ-loop : tie.MeasureT-loop
+μ-loop n row-ptr i₀ i = n - i
+
+loop-holds : tie.Need-loop-holds Inv-loop μ-loop
+loop-holds c = passed-none
+
+mul-if1 : tie.Need-mul-if1 Inv-loop μ-loop
+mul-if1 c =
+    let h : c .before .loop .i < length (c .before .before .args .row-ptr .now) = omega arith in
+    search needs
+
+shared-slice-read-if1 : tie.Need-shared-slice-read-if1 Inv-loop μ-loop
+shared-slice-read-if1 c = omega arith
+
+add-if1 : tie.Need-add-if1 Inv-loop μ-loop
+add-if1 c = omega arith
+
+mul-if1-2 : tie.Need-mul-if1-2 Inv-loop μ-loop
+mul-if1-2 c =
+    let h : c .before .before .loop .i + 1 < length (c .before .before .before .args .row-ptr .now) = omega arith in
+    search needs
+
+shared-slice-read-if1-2 : tie.Need-shared-slice-read-if1-2 Inv-loop μ-loop
+shared-slice-read-if1-2 c = omega arith
+
+returns : tie.Need-returns Inv-loop μ-loop
+unfolding rowStartsFault
+returns c =
+    let l = c .before .before .before .before .loop in
+    refuses-first _ _ _ _ (c .before .before .before .loop-test .taken)
+    (passed-found (l .inv) (lt-ltb _ _ (c .if1 .taken)))
+
+add-i : tie.Need-add-i Inv-loop μ-loop
+add-i c = omega arith
+
+loop-less : tie.Need-loop-less Inv-loop μ-loop
+loop-less c = omega arith
+
+loop-again : tie.Need-loop-again Inv-loop μ-loop
+loop-again c =
+    let l = c .before .before .before .before .loop in
+    passed-more (l .inv) (c .before .before .before .loop-test .taken) (le-ltb _ _ (c .if1 .left))
+
+returns-2 : tie.Need-returns-2 Inv-loop μ-loop
+unfolding rowStartsFault
+returns-2 c =
+    let l = c .before .loop in
+    accepts-none _ _ _ (λ j m. l .inv .none j (omega arith))
+
+pub check-row-starts-spec : {M : Type 1} → statement M
+check-row-starts-spec =
+    tie.close
+    (tie.spec
+    Inv-loop
+    μ-loop
+    loop-holds
+    mul-if1
+    shared-slice-read-if1
+    add-if1
+    mul-if1-2
+    shared-slice-read-if1-2
+    returns
+    add-i
+    loop-less
+    loop-again
+    returns-2)

@@ -1,0 +1,3 @@
+pub mod First
+pub mod Rows
+pub mod ShapeChecks

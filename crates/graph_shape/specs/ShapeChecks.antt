@@ -1,0 +1,39 @@
+-- The checks of the sizes and the row starts: rows 6, 1, 2 and 3 of document 01's table, each over all inputs, and their order. What is
+-- read past a list's end is 0; no check that comes after an accepted one reads there. Assumes nothing.
+use mathlib.Core.Bool.{Bool}
+use mathlib.Core.List.{List}
+use Prim.Native.Nat.{ℕ, _+_}
+use lib.Dec.{ltb}
+use lib.ListN.{length, getD}
+use Rattle.error.specs.Checks.{refuseIf, refuseUnequal, next}
+use Rattle.error.specs.declared.Refusal.the-variants.{RowStartCount, RowStartFalls, EntryCount, Size}
+use Rattle.error.specs.declared.Checked.{Checked}
+use Rattle.graph_shape.specs.First.{refuseFirst}
+
+-- row 6: n > 4,096, else columns > 65,535
+unfoldable pub sizeFault : ℕ → ℕ → Checked
+sizeFault n columns = next (refuseIf (ltb 4096 n) (Size n)) (refuseIf (ltb 65535 columns) (Size columns))
+
+-- row 1: the count of row starts is not n + 1
+unfoldable pub rowStartCountFault : ℕ → ℕ → Checked
+rowStartCountFault n count = refuseUnequal count (n + 1) (RowStartCount count)
+
+-- row i's start exceeds the next
+abbrev pub fallsAt : List ℕ → ℕ → Bool
+fallsAt starts i = ltb (getD starts (i + 1) 0) (getD starts i 0)
+
+-- row 2: the first i whose start exceeds the next
+unfoldable pub rowStartsFault : ℕ → List ℕ → Checked
+rowStartsFault n starts = refuseFirst (fallsAt starts) n RowStartFalls
+
+-- row 3: the columns, or the values, are not as many as the last row start says
+unfoldable pub entryCountFault : ℕ → ℕ → Checked
+entryCountFault count last = refuseUnequal count last (EntryCount last)
+
+-- 6, 1, 2, and 3 for the columns
+unfoldable pub shapeFault : ℕ → List ℕ → ℕ → Checked
+shapeFault n starts columns =
+    next (sizeFault n columns)
+    (next (rowStartCountFault n (length starts))
+    (next (rowStartsFault n starts)
+    (entryCountFault columns (getD starts n 0))))
