@@ -1,94 +1,59 @@
--- `magnus_graph_step::kernel::taylor4` meets its contract: the vector at n starts as a copy of the signal, and each turn adds the
--- next term, whose coefficient is one division. The patterns are compared once. Assumes nothing.
-use Prim.Native.Nat.{_-_, _*_}
-use native.Mathlib.Omega.{arith}
+-- `magnus_graph_step::kernel::taylor4` meets its contract: where the patterns are the same, the second sample's values belong to the first
+-- one's pattern. Assumes nothing.
+use mathlib.Core.Path.{sym, ap, _∙_}
+use Prim.Native.Nat.{_*_}
+use lib.ListN.{length}
 use lib.Ieee.{binary64}
-use Rattle.rounding.specs.StepLength.{minusHalf}
-use Rattle.arithmetic.specs.Arithmetic.{ieee}
 use Rattle.graph_rows.specs.RowProduct.{rowProduct64}
-use Rattle.magnus.specs.Operators.{omega4}
 use Rattle.magnus.specs.Coefficients.{reciprocalFactorial}
-use Rattle.magnus_graph_helpers.proofs.Terms.{TermsTurn, turns-none, turns-next, turns-all}
 use borrow.Author.Needs.{needs}
+use Rattle.magnus_graph_step.proofs.OnePattern.{terms-of-one-pattern}
 use Rattle.magnus_graph_step.proofs.kernel.taylor4.Statement.{statement}
 use Rattle.magnus_graph_step.proofs.kernel.taylor4.Tie as tie
 
-abbrev Inv-loop : tie.InvT-loop
-Inv-loop row-ptr1 col-idx1 vals1 row-ptr2 col-idx2 vals2 tau sign s work₀ n same k₀ work k =
-    let L1 = rowProduct64 n row-ptr1 col-idx1 vals1 in
-    let L2 = rowProduct64 n row-ptr2 col-idx2 vals2 in
-    let A = ieee binary64 in
-    TermsTurn A n (5 * n) (reciprocalFactorial binary64) 4 (omega4 A n minusHalf s sign tau L1 L2) work₀ k work
-
-abbrev μ-loop : tie.MeasureT-loop
-μ-loop row-ptr1 col-idx1 vals1 row-ptr2 col-idx2 vals2 tau sign s work₀ n same k₀ work k = 4 - k
-
-same-pattern-requires : tie.Need-same-pattern-requires Inv-loop μ-loop
+same-pattern-requires : tie.Need-same-pattern-requires
 same-pattern-requires c κs = search needs
 
-copy-within-requires : tie.Need-copy-within-requires Inv-loop μ-loop
-copy-within-requires c κs = omega arith
+pairs-taylor4-requires : tie.Need-pairs-taylor4-requires
+pairs-taylor4-requires c κs =
+    let taken = c .before in
+    let compared = taken .before in
+    let pre = compared .before .before .before .before .before .before .before .before .pre in
+    let same = compared .same-pattern .ensures .0 (taken .if1 .taken) in
+    (pre .0, (pre .1 .0 .count ∙ sym (ap length (same .1)), pre .1 .1))
 
-loop-holds : tie.Need-loop-holds Inv-loop μ-loop
-loop-holds c =
-    let copied = c .before .before in
-    let start = copied .before .before .before .before .before .before .before .before .before .before in
-    turns-none (ieee binary64) _ _ _ 4 _ (start .args .work .now) _ (omega arith) (copied .copy-within .ensures)
+same-length : tie.Need-same-length
+same-length c = search needs
 
-add-reciprocal-factorial : tie.Need-add-reciprocal-factorial Inv-loop μ-loop
-add-reciprocal-factorial c = omega arith
-
-reciprocal-factorial-requires : tie.Need-reciprocal-factorial-requires Inv-loop μ-loop
-reciprocal-factorial-requires c κs = omega arith
-
-term-requires : tie.Need-term-requires Inv-loop μ-loop
-term-requires c κs =
-    let head = c .before .before .before in
-    let compared = head .before .before .before .before .before in
-    let start = compared .before .before .before .before .before .before .before .before in
-    let kept = head .loop .inv .terms .length-kept in
-    (start .pre .0, (start .pre .1 .0, (compared .same-pattern .ensures .0, omega (arith, start .pre .1 .1, kept))))
-
-add-k : tie.Need-add-k Inv-loop μ-loop
-add-k c = omega arith
-
-loop-less : tie.Need-loop-less Inv-loop μ-loop
-loop-less c = omega arith
-
-loop-again : tie.Need-loop-again Inv-loop μ-loop
-loop-again c =
-    let term = c .before .before in
-    let coefficient = term .before .before in
-    let test = coefficient .before in
-    let head = test .before in
-    turns-next (ieee binary64) _ _ _ (head .loop .inv) (test .loop-test .taken) _ _
-    (coefficient .reciprocal-factorial .ensures) (term .term .ensures)
-
-same-length : tie.Need-same-length Inv-loop μ-loop
-same-length c = omega (arith, c .before .loop .inv .terms .length-kept)
-
-returns : tie.Need-returns Inv-loop μ-loop
+returns : tie.Need-returns
 returns c =
-    let head = c .before in
-    let copied = head .before .before .before in
-    let start = copied .before .before .before .before .before .before .before .before .before .before in
-    turns-all (ieee binary64) _ _ _ (start .args .work .now) _ (omega (arith, start .pre .1 .1)) (omega arith)
-    (copied .copy-within .ensures) (head .loop .inv) (c .loop-test .left)
+    let done = c .before .before in
+    let taken = done .before .before in
+    let compared = taken .before in
+    let args = compared .before .before .before .before .before .before .before .before .args in
+    let n = args .n in
+    terms-of-one-pattern n (5 * n) (reciprocalFactorial binary64) 4 (args .s) (args .sign) (args .tau)
+    (rowProduct64 n (args .row-ptr1 .now) (args .col-idx1 .now) (args .vals1 .now))
+    (args .row-ptr1 .now) (args .col-idx1 .now) (args .row-ptr2 .now) (args .col-idx2 .now) (args .vals2 .now) (args .work .now) _
+    (compared .same-pattern .ensures .0 (taken .if1 .taken)) (done .pairs-taylor4 .ensures)
+
+products-taylor4-requires : tie.Need-products-taylor4-requires
+products-taylor4-requires c κs = c .before .before .before .before .before .before .before .before .before .before .pre
+
+same-length-2 : tie.Need-same-length-2
+same-length-2 c = search needs
+
+returns-2 : tie.Need-returns-2
+returns-2 c = c .before .before .products-taylor4 .ensures
 
 pub taylor4-spec : {M : Type 1} → statement M
 taylor4-spec =
     tie.close
     (tie.spec
-    Inv-loop
-    μ-loop
     same-pattern-requires
-    copy-within-requires
-    loop-holds
-    add-reciprocal-factorial
-    reciprocal-factorial-requires
-    term-requires
-    add-k
-    loop-less
-    loop-again
+    pairs-taylor4-requires
     same-length
-    returns)
+    returns
+    products-taylor4-requires
+    same-length-2
+    returns-2)
