@@ -20,7 +20,7 @@ use Rattle.graph_traj_checks.specs.AcceptedRun.{AcceptedRun}
 use Rattle.graph_traj_adjoint_checks.specs.AcceptedAdjointRun.{AcceptedAdjointRun}
 use Rattle.graph_traj_checks.proofs.RunSound.{run-accepted}
 use Rattle.graph_traj_adjoint_checks.proofs.AdjointRunSound.{adjoint-run-accepted}
-use Rattle.magnus_graph_traj.specs.RunSteps.{segmentSteps, allSteps}
+use Rattle.magnus_graph_traj_run.specs.RunSteps.{segmentSteps, allSteps}
 use Rattle.magnus_graph_traj.specs.RunOutcome.{Run, forwardRun, adjointRun}
 use Rattle.magnus_graph_traj.proofs.RunOutcome.{RunOfFormat, RunLengths}
 

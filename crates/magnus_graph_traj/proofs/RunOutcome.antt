@@ -28,9 +28,9 @@ use Rattle.magnus_graph_checks.proofs.StepSound.{refused-not-accepted}
 use Rattle.graph_traj_segment.specs.Times.{c1, c2}
 use Rattle.graph_traj_parts.specs.Trajectory.{Trajectory}
 use Rattle.graph_traj_checks.specs.RunChecks.{runNeed}
-use Rattle.magnus_graph_traj.specs.RunSteps.{RunStep, runStepFault, runStepImage, formedRunStep, stepAgrees, plainStep}
-use Rattle.magnus_graph_traj.specs.RunSteps.{firstFault}
-use Rattle.magnus_graph_traj.specs.StepsTaken.{StepsTaken}
+use Rattle.magnus_graph_traj_run.specs.RunSteps.{RunStep, runStepFault, runStepImage, firstFault}
+use Rattle.magnus_graph_traj.specs.PlainSteps.{formedRunStep, stepAgrees, plainStep}
+use Rattle.magnus_graph_traj_run.specs.StepsTaken.{StepsTaken}
 use Rattle.magnus_graph_traj.specs.RunOutcome.{Run, runAnswer, PlainRun, Ran}
 use Rattle.magnus_graph_traj.proofs.SampledFormat.{sample-of-format}
 

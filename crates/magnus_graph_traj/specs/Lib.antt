@@ -1,3 +1,2 @@
-pub mod RunSteps
-pub mod StepsTaken
+pub mod PlainSteps
 pub mod RunOutcome

@@ -4,13 +4,11 @@ ghost use Rattle.magnus_graph_traj.specs.RunOutcome.{forwardRun, adjoint
 use error::Checked;
 use graph_traj_adjoint_checks::check_adjoint_run;
 use graph_traj_checks::check::check_run;
-use run::run_adjoint_steps;
-use run::run_all_segments;
+use magnus_graph_traj_run::kernel::run_adjoint_steps;
+use magnus_graph_traj_run::kernel::run_all_segments;
 use scratch::kernel::clear;
 use scratch::kernel::load;
 use scratch::kernel::store;
-
-mod run;
 
 // The forward run: dst becomes src after `steps` steps in each segment. Refused before the first step by rows 6, 1 to 4, 13, 14, 15, 19,
 // 5, 9, 16, 17, 10 for src, dst and work, whose need is 7n + 2m, and 8 by segment: every slice is as it was. Refused by row 20 in a step,

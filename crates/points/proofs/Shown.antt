@@ -6,9 +6,12 @@ use Rattle.arithmetic.specs.Vector.{tabulate}
 use Rattle.arithmetic.specs.Product.{sumTo, entries, rowSum}
 use Rattle.error.specs.Checks.{refuseIf, refuseUnequal, next, ifAccepted}
 use Rattle.error.specs.Lengths.{lengthFault}
-use Rattle.graph_checks.specs.First.{first, refuseFirst}
-use Rattle.graph_checks.specs.PatternChecks.{sizeFault, rowStartCountFault, rowStartsFault, entryCountFault, columnFault, valueFault}
-use Rattle.graph_checks.specs.PatternChecks.{shapeFault, patternFault, csrFault}
+use Rattle.graph_shape.specs.First.{first, refuseFirst}
+use Rattle.graph_shape.specs.ShapeChecks.{sizeFault, rowStartCountFault, rowStartsFault, entryCountFault}
+use Rattle.graph_columns.specs.ColumnChecks.{columnFault}
+use Rattle.graph_checks.specs.PatternChecks.{valueFault}
+use Rattle.graph_shape.specs.ShapeChecks.{shapeFault}
+use Rattle.graph_checks.specs.PatternChecks.{patternFault, csrFault}
 use Rattle.graph.specs.ProductOutcome.{productFault}
 use Rattle.graph_traj.specs.Greatest.{greatest}
 use Rattle.graph_traj.specs.Lookup.{segmentAt}
@@ -36,7 +39,7 @@ use Rattle.magnus_graph_checks.specs.StepChecks.{roomFault, sampleFault, sample
 use Rattle.varcoef_magnus_graph_checks.specs.WeightedStepChecks.{weightedBoundsFault, weightFault}
 use Rattle.magnus_graph_checks.specs.StepChecks.{stepLengthFault, lengthsFault, stepFault}
 use Rattle.varcoef_magnus_graph_checks.specs.WeightedStepChecks.{weightedStepFault}
-use Rattle.magnus_graph_traj.specs.RunSteps.{firstFault}
+use Rattle.magnus_graph_traj_run.specs.RunSteps.{firstFault}
 use Rattle.scratch.specs.Parts.{put}
 use Rattle.square_root.specs.SquareRoot.{squareRoot}
 use Rattle.points.specs.Points.{Point, points, roots, products, steps, trajectories, x64, reals, answerOr, leaves, root}

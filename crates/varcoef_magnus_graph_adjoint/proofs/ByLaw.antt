@@ -14,7 +14,7 @@ use Rattle.scratch.proofs.Parts.{part-whole}
 use Rattle.error.specs.Checks.{next}
 use Rattle.error.specs.declared.Checked.{Checked}
 use Rattle.error.specs.declared.Checked.the-variants.{Accepted}
-use Rattle.graph_checks.proofs.First.{accepts-none}
+use Rattle.graph_shape.proofs.First.{accepts-none}
 use Rattle.magnus_graph.specs.StepOutcome.{adjoint}
 use Rattle.varcoef_magnus_graph_checks.specs.WeightedStepChecks.{weightFault}
 use Rattle.graph_traj_segment.specs.Laws.{lawValues, byLaw, valuesAt}
@@ -22,7 +22,7 @@ use Rattle.graph_traj_breakpoints.specs.Breakpoints.{breakpoint}
 use Rattle.graph_traj_segment.specs.Times.{c1, c2}
 use Rattle.graph_traj_parts.specs.Trajectory.{Trajectory, AcceptedAdjointTrajectory}
 use Rattle.graph_traj_samples.specs.Sampled.{sampledFault}
-use Rattle.magnus_graph_traj.specs.RunSteps.{RunStep, adjointCourse, segmentSteps, sampleAt, fractionAt, runStepFault}
+use Rattle.magnus_graph_traj_run.specs.RunSteps.{RunStep, adjointCourse, segmentSteps, sampleAt, fractionAt, runStepFault}
 use Rattle.varcoef_magnus_graph_adjoint.specs.WeightedRunSteps.{weightsAt, weightedRunStepFault, weightedRunStepImage}
 use Rattle.varcoef_magnus_graph_traj_step.specs.StepTaken.{stepImage}
 use Rattle.varcoef_magnus_graph_adjoint.specs.StepsTaken.{StepsTaken, sampledStepFault, sampledStepImage}

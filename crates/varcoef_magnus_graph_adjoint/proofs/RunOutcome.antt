@@ -20,7 +20,7 @@ use Rattle.error.proofs.Left.{answers, left-unchanged, left-written}
 use Rattle.magnus.specs.Run.{runAlong}
 use Rattle.magnus.proofs.PlainRun.{plain-run}
 use Rattle.magnus_graph_checks.proofs.StepSound.{refused-not-accepted}
-use Rattle.magnus_graph_traj.specs.RunSteps.{RunStep, firstFault}
+use Rattle.magnus_graph_traj_run.specs.RunSteps.{RunStep, firstFault}
 use Rattle.varcoef_magnus_graph_adjoint.specs.StepsTaken.{StepsTaken}
 use Rattle.varcoef_magnus_graph_adjoint.specs.WeightedRunOutcome.{Run, runAnswer, PlainRun, Ran}
 

@@ -16,7 +16,7 @@ use Rattle.error.specs.declared.Checked.the-variants.{Accepted, Refused}
 use Rattle.error.proofs.Checks.{next-refused, next-assoc, accepted-then}
 use Rattle.magnus.specs.Run.{runAlong}
 use Rattle.magnus_graph_checks.proofs.StepSound.{refused-not-accepted}
-use Rattle.magnus_graph_traj.specs.RunSteps.{RunStep, segmentSteps, firstFault}
+use Rattle.magnus_graph_traj_run.specs.RunSteps.{RunStep, segmentSteps, firstFault}
 use Rattle.varcoef_magnus_graph_traj_step.specs.StepTaken.{Kept}
 use Rattle.varcoef_magnus_graph_traj_step.proofs.Kept.{kept-all, kept-then}
 use Rattle.varcoef_magnus_graph_adjoint.specs.StepsTaken.{StepsTaken}

@@ -31,7 +31,7 @@ use Rattle.graph_traj_segment.specs.declared.kernel.Segment.{Segment}
 use Rattle.graph_traj_segment.specs.SegmentValue.{nextStep}
 use Rattle.graph_traj_segment.specs.Laws.{fraction, lawValues}
 use Rattle.graph_traj_segment.specs.Times.{c1, c2, adjointStepStart, sampleTime}
-use Rattle.magnus_graph_traj.specs.RunSteps.{RunStep, segmentSteps, firstFault}
+use Rattle.magnus_graph_traj_run.specs.RunSteps.{RunStep, segmentSteps, firstFault}
 use Rattle.varcoef_magnus_graph_traj_step.specs.StepTaken.{Kept, StepTaken, stepImage}
 use Rattle.varcoef_magnus_graph_traj_step.proofs.Kept.{kept-all, kept-then, kept-put}
 use Rattle.varcoef_magnus_graph_adjoint.specs.StepsTaken.{StepsTaken, sampledStepFault, sampledStepImage}

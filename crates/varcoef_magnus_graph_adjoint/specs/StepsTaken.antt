@@ -11,7 +11,7 @@ use Rattle.error.specs.declared.Checked.the-variants.{Accepted}
 use Rattle.magnus.specs.Run.{runAlong}
 use Rattle.graph_traj_segment.specs.Laws.{fraction, lawValues}
 use Rattle.graph_traj_segment.specs.Times.{c1, c2, adjointStepStart, sampleTime}
-use Rattle.magnus_graph_traj.specs.RunSteps.{RunStep, firstFault}
+use Rattle.magnus_graph_traj_run.specs.RunSteps.{RunStep, firstFault}
 use Rattle.varcoef_magnus_graph_traj_step.specs.StepTaken.{Kept, stepFault, stepImage}
 
 -- These steps of a run on n nodes were taken in the work slice w, now w′: the answer is the first fault among them, and where there is

@@ -18,7 +18,7 @@ use Rattle.magnus.specs.Run.{runAlong, everyStep, formedAlong}
 use Rattle.magnus_graph.specs.StepOutcome.{adjoint}
 use Rattle.graph_traj_parts.specs.Trajectory.{Trajectory}
 use Rattle.graph_traj_adjoint_checks.specs.AdjointRunChecks.{weightedRunNeed, weightedAdjointRunFault}
-use Rattle.magnus_graph_traj.specs.RunSteps.{RunStep, Course, adjointCourse, firstFault}
+use Rattle.magnus_graph_traj_run.specs.RunSteps.{RunStep, Course, adjointCourse, firstFault}
 use Rattle.varcoef_magnus_graph_adjoint.specs.WeightedRunSteps.{weightedRunStepFault, weightedRunStepImage, formedWeightedRunStep}
 use Rattle.varcoef_magnus_graph_adjoint.specs.WeightedRunSteps.{weightedStepAgrees, weightedPlainStep}
 

@@ -9,7 +9,7 @@ ghost use Rattle.varcoef_magnus_graph_checks.specs.WeightedStepChecks.{weightFa
 ghost use Rattle.graph_traj_segment.specs.Laws.{fraction, lawValues};
 ghost use Rattle.graph_traj_segment.specs.Times.{c1, c2, adjointStepStart, sampleTime};
 ghost use Rattle.graph_traj_parts.specs.Trajectory.{trajectory, AcceptedAdjointTrajectory};
-ghost use Rattle.magnus_graph_traj.specs.RunSteps.{segmentSteps, adjointCourse};
+ghost use Rattle.magnus_graph_traj_run.specs.RunSteps.{segmentSteps, adjointCourse};
 ghost use Rattle.varcoef_magnus_graph_traj_step.specs.StepTaken.{StepTaken, stepImage};
 ghost use Rattle.varcoef_magnus_graph_adjoint.specs.StepsTaken.{StepsTaken};
 ghost use Rattle.varcoef_magnus_graph_adjoint.specs.StepsTaken.{sampledStepFault, sampledStepImage};

@@ -20,7 +20,7 @@ use Rattle.magnus_graph.specs.StepOutcome.{adjoint}
 use Rattle.graph_traj_parts.specs.Trajectory.{Trajectory, trajectory}
 use Rattle.graph_traj_adjoint_checks.specs.AcceptedAdjointRun.{AcceptedWeightedAdjointRun}
 use Rattle.graph_traj_adjoint_checks.proofs.AdjointRunSound.{weighted-adjoint-run-accepted}
-use Rattle.magnus_graph_traj.specs.RunSteps.{segmentSteps, adjointCourse}
+use Rattle.magnus_graph_traj_run.specs.RunSteps.{segmentSteps, adjointCourse}
 use Rattle.varcoef_magnus_graph_adjoint.specs.WeightedRunOutcome.{Run, weightedAdjointRun}
 use Rattle.varcoef_magnus_graph_adjoint.proofs.StepPlain.{step-plain}
 use Rattle.varcoef_magnus_graph_adjoint.proofs.RunOutcome.{run-refused, run-copied, run-stopped, run-done}

@@ -17,10 +17,10 @@ use Rattle.graph_traj_segment.specs.Laws.{fraction}
 use Rattle.graph_traj_segment.specs.Times.{c1, c2, sampleTime}
 use Rattle.graph_traj_parts.specs.Trajectory.{Trajectory, AcceptedTrajectory}
 use Rattle.graph_traj_segment.proofs.Laws.{list-within}
-use Rattle.magnus_graph_traj.specs.RunSteps.{RunStep, Course, segmentSteps, allSteps}
+use Rattle.magnus_graph_traj_run.specs.RunSteps.{RunStep, Course, segmentSteps, allSteps}
 use Rattle.magnus_graph_traj_step.specs.RunStepTaken.{RunStepTaken}
-use Rattle.magnus_graph_traj.specs.StepsTaken.{StepAt, StepsTaken}
-use Rattle.magnus_graph_traj.proofs.StepsTaken.{segmentAt, segment-grows, none-taken, one-taken, more-taken, stays-refused}
+use Rattle.magnus_graph_traj_run.specs.StepsTaken.{StepAt, StepsTaken}
+use Rattle.magnus_graph_traj_run.proofs.StepsTaken.{segmentAt, segment-grows, none-taken, one-taken, more-taken, stays-refused}
 
 -- ---- one step
 

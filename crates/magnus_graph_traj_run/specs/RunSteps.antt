@@ -1,23 +1,16 @@
 -- The steps of a run along a trajectory (01, parts 8 and 10): in which order they are taken, how long each is, where its samples
 -- lie, and what it does with the held signal. The samples and the order of the steps are the same text for forward and adjoint runs.
 -- Assumes nothing.
-use mathlib.Core.Bool.{Bool, _&&_}
 use mathlib.Core.List.{List, [], _∷_, _++_}
 use Prim.Native.Nat.{ℕ, zero, suc, _+_, _*_}
 use lib.ListN.{length, getD}
 use lib.Ieee.{Float, binary64}
-use Rattle.rounding.specs.StepLength.{stepLength}
 use Rattle.arithmetic.specs.Vector.{tabulate}
-use Rattle.arithmetic.specs.Arithmetic.{ieee}
 use Rattle.scratch.specs.Parts.{part}
 use Rattle.error.specs.Checks.{next}
 use Rattle.error.specs.declared.Checked.{Checked}
 use Rattle.error.specs.declared.Checked.the-variants.{Accepted}
 use Rattle.graph_rows.specs.RowProduct.{rowProduct64}
-use Rattle.magnus.specs.Operators.{plainSum}
-use Rattle.magnus.specs.Coefficients.{reciprocalFactorial}
-use Rattle.magnus.specs.Agree.{agree}
-use Rattle.magnus.specs.Formed.{FormedOperator, formedProduct, formedStep4}
 use Rattle.magnus_graph.specs.Omega4.{sqrt3Over12}
 use Rattle.magnus_graph_step.specs.Omega4.{expOmega4}
 use Rattle.graph_traj_segment.specs.Laws.{fraction, valuesAt}
@@ -93,23 +86,6 @@ module _ (t : Trajectory) (course : Course) where
   -- the held signal after the step
   abbrev pub runStepImage : Float → RunStep → List Float → List Float
   runStepImage sign s = expOmega4 binary64 (t .nodes) sqrt3Over12 sign (course .tau s) (product s c1) (product s c2)
-
-  -- the same with, for each signal, whether every number formed is finite
-  abbrev pub formedRunProduct : RunStep → Float → FormedOperator
-  formedRunProduct s c = formedProduct binary64 (t .nodes) (t .rowStarts) (t .cols) (sampleAt s c)
-
-  abbrev pub formedRunStep : Float → RunStep → FormedOperator
-  formedRunStep sign s =
-      formedStep4 binary64 (t .nodes) (reciprocalFactorial binary64) 4 sqrt3Over12 sign (course .tau s)
-      (formedRunProduct s c1) (formedRunProduct s c2)
-
-  -- demand 3's premises on a step: its samples agree, and its τ is 0 or at least 2 ^ -1021
-  abbrev pub stepAgrees : RunStep → Bool
-  stepAgrees s = agree (sampleAt s c1) (sampleAt s c2) && stepLength binary64 (course .tau s)
-
-  -- a step of the plain run (01, demand 3): the plain sum of degree 4 with the first sample alone
-  abbrev pub plainStep : RunStep → List Float → List Float
-  plainStep s = plainSum (ieee binary64) (t .nodes) (reciprocalFactorial binary64) 4 (course .tau s) (product s c1)
 
 -- the first refusal among the steps, in the order in which they are taken
 unfoldable pub firstFault : {S : Type 0} → (S → Checked) → List S → Checked

@@ -3,12 +3,12 @@ use Prim.Native.Nat.{_-_}
 use native.Mathlib.Omega.{arith}
 use Rattle.magnus_graph.specs.StepOutcome.{forward}
 use Rattle.graph_traj_parts.specs.Trajectory.{trajectory}
-use Rattle.magnus_graph_traj.specs.RunSteps.{segmentSteps, allSteps, forwardCourse}
-use Rattle.magnus_graph_traj.proofs.StepsTaken.{all-grow}
-use Rattle.magnus_graph_traj.proofs.Walk.{Walked, no-segments, walk-begins, walk-ends, walk-on, walk-stops}
+use Rattle.magnus_graph_traj_run.specs.RunSteps.{segmentSteps, allSteps, forwardCourse}
+use Rattle.magnus_graph_traj_run.proofs.StepsTaken.{all-grow}
+use Rattle.magnus_graph_traj_run.proofs.Walk.{Walked, no-segments, walk-begins, walk-ends, walk-on, walk-stops}
 use borrow.Author.Needs.{needs}
-use Rattle.magnus_graph_traj.proofs.run.run_all_segments.Statement.{statement}
-use Rattle.magnus_graph_traj.proofs.run.run_all_segments.Tie as tie
+use Rattle.magnus_graph_traj_run.proofs.kernel.run_all_segments.Statement.{statement}
+use Rattle.magnus_graph_traj_run.proofs.kernel.run_all_segments.Tie as tie
 
 abbrev Inv-loop : tie.InvT-loop
 Inv-loop n row-ptr col-idx segments breakpoints starts ends laws steps work₀ i₀ work i =

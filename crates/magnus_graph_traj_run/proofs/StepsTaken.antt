@@ -18,8 +18,8 @@ use Rattle.graph_traj_segment.specs.declared.kernel.Segment.{Segment}
 use Rattle.graph_traj_breakpoints.specs.Breakpoints.{breakpoint}
 use Rattle.graph_traj_parts.specs.Trajectory.{Trajectory}
 use Rattle.magnus_graph_checks.proofs.StepSound.{refused-not-accepted}
-use Rattle.magnus_graph_traj.specs.RunSteps.{RunStep, Course, segmentSteps, allSteps, sampleAt, runStepFault, runStepImage, firstFault}
-use Rattle.magnus_graph_traj.specs.StepsTaken.{StepAt, StepsTaken}
+use Rattle.magnus_graph_traj_run.specs.RunSteps.{RunStep, Course, segmentSteps, allSteps, sampleAt, runStepFault, runStepImage, firstFault}
+use Rattle.magnus_graph_traj_run.specs.StepsTaken.{StepAt, StepsTaken}
 
 -- ---- lists of steps
 

@@ -1,71 +1,55 @@
--- `run_segment_steps` meets its contract: each turn takes the next step of the segment, and the segment's value counts them. Assumes
+-- `run_adjoint_steps` meets its contract: each turn takes the next step of the one segment, whose value counts them. Assumes
 -- nothing.
 use mathlib.Core.Path.{refl}
 use Prim.Native.Nat.{_-_}
 use native.Mathlib.Omega.{arith}
-use Rattle.magnus_graph.specs.StepOutcome.{forward}
-use Rattle.graph_traj_segment.specs.Times.{stepStart}
+use Rattle.magnus_graph.specs.StepOutcome.{adjoint}
+use Rattle.graph_traj_segment.specs.Times.{adjointStepStart}
 use Rattle.graph_traj_parts.specs.Trajectory.{trajectory}
-use Rattle.magnus_graph_traj.specs.RunSteps.{forwardCourse}
-use Rattle.magnus_graph_traj.proofs.Walk.{StepsWalked, steps-begin, step-number, steps-end, steps-on, steps-stop}
+use Rattle.magnus_graph_traj_run.specs.RunSteps.{adjointCourse}
+use Rattle.magnus_graph_traj_run.proofs.Walk.{StepsWalked, steps-begin, step-number, steps-end, steps-on, steps-stop}
 use borrow.Author.Needs.{needs}
-use Rattle.magnus_graph_traj.proofs.run.run_segment_steps.Statement.{statement}
-use Rattle.magnus_graph_traj.proofs.run.run_segment_steps.Tie as tie
+use Rattle.magnus_graph_traj_run.proofs.kernel.run_adjoint_steps.Statement.{statement}
+use Rattle.magnus_graph_traj_run.proofs.kernel.run_adjoint_steps.Tie as tie
 
 abbrev Inv-loop : tie.InvT-loop
-Inv-loop n row-ptr col-idx segments breakpoints starts ends laws steps i work₀ segment₀ counter₀ work segment counter =
+Inv-loop n row-ptr col-idx segments breakpoints starts ends laws tau steps work₀ segment₀ counter₀ work segment counter =
     let t = trajectory n row-ptr col-idx segments breakpoints starts ends laws in
-    StepsWalked t (forwardCourse breakpoints segments steps) forward i steps counter work₀ work segment
+    StepsWalked t (adjointCourse tau steps) adjoint 0 steps counter work₀ work segment
 
 abbrev μ-loop : tie.MeasureT-loop
-μ-loop n row-ptr col-idx segments breakpoints starts ends laws steps i work₀ segment₀ counter₀ work segment counter =
+μ-loop n row-ptr col-idx segments breakpoints starts ends laws tau steps work₀ segment₀ counter₀ work segment counter =
     steps - counter
 
-mul-new : tie.Need-mul-new Inv-loop μ-loop
-mul-new c =
-    let start = c .before .before .before .before .before .before .before in
-    omega (arith, start .pre .1 .1, start .pre .0 .times .few-segments)
-
-shared-slice-read-new : tie.Need-shared-slice-read-new Inv-loop μ-loop
-shared-slice-read-new c =
+shared-slice-read-with-tau : tie.Need-shared-slice-read-with-tau Inv-loop μ-loop
+shared-slice-read-with-tau c =
     let start = c .before .before .before .before .before .before .before .before in
-    omega (arith, start .pre .1 .1, start .pre .0 .times .count)
+    omega (arith, start .pre .0 .times .count)
 
-add-new : tie.Need-add-new Inv-loop μ-loop
-add-new c =
-    let start = c .before .before .before .before .before .before .before .before in
-    omega (arith, start .pre .1 .1, start .pre .0 .times .few-segments)
-
-mul-new-2 : tie.Need-mul-new-2 Inv-loop μ-loop
-mul-new-2 c =
-    let start = c .before .before .before .before .before .before .before .before in
-    omega (arith, start .pre .1 .1, start .pre .0 .times .few-segments)
-
-shared-slice-read-new-2 : tie.Need-shared-slice-read-new-2 Inv-loop μ-loop
-shared-slice-read-new-2 c =
+shared-slice-read-with-tau-2 : tie.Need-shared-slice-read-with-tau-2 Inv-loop μ-loop
+shared-slice-read-with-tau-2 c =
     let start = c .before .before .before .before .before .before .before .before .before in
-    omega (arith, start .pre .1 .1, start .pre .0 .times .count)
+    omega (arith, start .pre .0 .times .count, start .pre .0 .times .some-segments)
 
-new-requires : tie.Need-new-requires Inv-loop μ-loop
-new-requires c κs =
-    let start = c .before .before .before .before .before .before .before .before .before in
-    start .pre .1 .0
+with-tau-requires : tie.Need-with-tau-requires Inv-loop μ-loop
+with-tau-requires c κs =
+    tt
 
 loop-holds : tie.Need-loop-holds Inv-loop μ-loop
 loop-holds c =
-    steps-begin _ _ (c .new .ensures)
+    steps-begin _ _ (c .with-tau .ensures)
 
-step-start-requires : tie.Need-step-start-requires Inv-loop μ-loop
-step-start-requires c κs =
+adjoint-step-start-requires : tie.Need-adjoint-step-start-requires Inv-loop μ-loop
+adjoint-step-start-requires c κs =
     let head = c .before in
     let start = head .before .before .before .before .before .before .before .before .before .before .before in
-    omega (arith, step-number (head .loop .inv), head .loop .inv .walked .within, start .pre .1 .0)
+    (omega (arith, step-number (head .loop .inv), c .loop-test .taken), start .pre .1 .0)
 
 step-at-requires : tie.Need-step-at-requires Inv-loop μ-loop
 step-at-requires c κs =
     let head = c .before .before .before in
     let start = head .before .before .before .before .before .before .before .before .before .before .before in
-    (start .pre .0, (start .pre .1 .1, omega (arith, start .pre .1 .2, head .loop .inv .walked .taken .length-kept)))
+    (start .pre .0, (start .pre .0 .times .some-segments, omega (arith, start .pre .1 .1, head .loop .inv .walked .taken .length-kept)))
 
 enum-told : tie.Need-enum-told Inv-loop μ-loop
 enum-told c =
@@ -87,8 +71,9 @@ returns c =
     let begun = taken .before .before in
     let test = begun .before in
     let head = test .before in
-    steps-stop (head .loop .inv) (λ s. stepStart (s .start) (s .tau) (s .step)) refl (test .loop-test .taken) (begun .step-start .ensures)
-    (taken .step-at .ensures) (c .enum-told2 .given .1)
+    let start = head .before .before .before .before .before .before .before .before .before .before .before in
+    steps-stop (head .loop .inv) (λ s. adjointStepStart (s .tau) (start .args .steps) (s .step)) refl (test .loop-test .taken)
+    (begun .adjoint-step-start .ensures) (taken .step-at .ensures) (c .enum-told2 .given .1)
 
 next-requires : tie.Need-next-requires Inv-loop μ-loop
 next-requires c κs =
@@ -114,8 +99,9 @@ loop-again c =
     let begun = taken .before .before in
     let test = begun .before in
     let head = test .before in
-    steps-on (head .loop .inv) (λ s. stepStart (s .start) (s .tau) (s .step)) refl (test .loop-test .taken) (begun .step-start .ensures)
-    (taken .step-at .ensures) refl (c .next .ensures) (told .enum-told .given .1)
+    let start = head .before .before .before .before .before .before .before .before .before .before .before in
+    steps-on (head .loop .inv) (λ s. adjointStepStart (s .tau) (start .args .steps) (s .step)) refl (test .loop-test .taken)
+    (begun .adjoint-step-start .ensures) (taken .step-at .ensures) refl (c .next .ensures) (told .enum-told .given .1)
 
 same-length-2 : tie.Need-same-length-2 Inv-loop μ-loop
 same-length-2 c =
@@ -127,20 +113,17 @@ returns-2 c =
     let head = c .before in
     steps-end (head .loop .inv) (c .loop-test .left)
 
-pub run-segment-steps-spec : {M : Type 1} → statement M
-run-segment-steps-spec =
+pub run-adjoint-steps-spec : {M : Type 1} → statement M
+run-adjoint-steps-spec =
     tie.close
     (tie.spec
     Inv-loop
     μ-loop
-    mul-new
-    shared-slice-read-new
-    add-new
-    mul-new-2
-    shared-slice-read-new-2
-    new-requires
+    shared-slice-read-with-tau
+    shared-slice-read-with-tau-2
+    with-tau-requires
     loop-holds
-    step-start-requires
+    adjoint-step-start-requires
     step-at-requires
     enum-told
     enum-told-2

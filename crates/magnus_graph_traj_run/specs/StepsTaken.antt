@@ -14,7 +14,7 @@ use Rattle.graph_traj_segment.specs.Laws.{fraction}
 use Rattle.graph_traj_segment.specs.Times.{c1, c2, sampleTime}
 use Rattle.graph_traj_parts.specs.Trajectory.{Trajectory}
 use Rattle.graph_traj_checks.specs.RunChecks.{runNeed}
-use Rattle.magnus_graph_traj.specs.RunSteps.{RunStep, Course, runStepFault, runStepImage, firstFault}
+use Rattle.magnus_graph_traj_run.specs.RunSteps.{RunStep, Course, runStepFault, runStepImage, firstFault}
 use Rattle.magnus_graph_traj_step.specs.RunStepTaken.{RunStepTaken}
 
 -- one step in segment k, given as a value, that starts at the time `start`: its samples lie at the segment's Gauss nodes

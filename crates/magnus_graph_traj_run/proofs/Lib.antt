@@ -1,0 +1,2 @@
+pub mod StepsTaken
+pub mod Walk
