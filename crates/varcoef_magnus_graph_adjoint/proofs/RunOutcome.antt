@@ -21,7 +21,7 @@ use Rattle.magnus.specs.Run.{runAlong}
 use Rattle.magnus.proofs.PlainRun.{plain-run}
 use Rattle.magnus_graph_checks.proofs.StepSound.{refused-not-accepted}
 use Rattle.magnus_graph_traj_run.specs.RunSteps.{RunStep, firstFault}
-use Rattle.varcoef_magnus_graph_adjoint.specs.StepsTaken.{StepsTaken}
+use Rattle.varcoef_magnus_graph_adjoint_run.specs.StepsTaken.{StepsTaken}
 use Rattle.varcoef_magnus_graph_adjoint.specs.WeightedRunOutcome.{Run, runAnswer, PlainRun, Ran}
 
 module _ (run : Run) where

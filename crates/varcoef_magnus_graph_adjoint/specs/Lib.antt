@@ -1,3 +1,2 @@
-pub mod WeightedRunSteps
+pub mod WeightedPlainSteps
 pub mod WeightedRunOutcome
-pub mod StepsTaken

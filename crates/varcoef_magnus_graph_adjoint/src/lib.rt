@@ -6,9 +6,7 @@ use graph_traj_adjoint_checks::check_weighted_adjoint_run;
 use scratch::kernel::clear;
 use scratch::kernel::load;
 use scratch::kernel::store;
-use steps::run_steps;
-
-mod steps;
+use varcoef_magnus_graph_adjoint_run::kernel::run_steps;
 
 // The weighted adjoint run in the one segment of its trajectory: dst becomes src after `steps` steps of length tau, the last first. The
 // weights a_starts and a_ends follow the law of the values. Refused before the first step by rows 6, 1 to 4, 13, 14, 15, 17, 19, 5, 9, 12,

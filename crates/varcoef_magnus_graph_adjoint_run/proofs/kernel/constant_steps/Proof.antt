@@ -4,10 +4,10 @@ use Prim.Native.Nat.{_-_}
 use native.Mathlib.Omega.{arith}
 use lib.Ieee.{ofBits, neg}
 use borrow.Author.Needs.{needs}
-use Rattle.varcoef_magnus_graph_adjoint.proofs.Walk.{ConstantWalked, constant-begins, constant-starts, constant-from, constant-on}
-use Rattle.varcoef_magnus_graph_adjoint.proofs.Walk.{constant-ends, constant-refused}
-use Rattle.varcoef_magnus_graph_adjoint.proofs.steps.constant_steps.Statement.{statement}
-use Rattle.varcoef_magnus_graph_adjoint.proofs.steps.constant_steps.Tie as tie
+use Rattle.varcoef_magnus_graph_adjoint_run.proofs.Walk.{ConstantWalked, constant-begins, constant-starts, constant-from, constant-on}
+use Rattle.varcoef_magnus_graph_adjoint_run.proofs.Walk.{constant-ends, constant-refused}
+use Rattle.varcoef_magnus_graph_adjoint_run.proofs.kernel.constant_steps.Statement.{statement}
+use Rattle.varcoef_magnus_graph_adjoint_run.proofs.kernel.constant_steps.Tie as tie
 use Rattle.varcoef_magnus_graph_checks.proofs.check_sample_weights.Reads as check-sample-weights-reads
 use Rattle.varcoef_magnus_graph_products.proofs.kernel.load_roots.Reads as load-roots-reads
 use Rattle.varcoef_magnus_graph_traj_step.proofs.kernel.constant_taylor4.Reads as constant-taylor4-reads

@@ -2,11 +2,11 @@
 use Prim.Native.Nat.{_+_, _*_, _-_}
 use native.Mathlib.Omega.{arith}
 use lib.ListN.{length}
-use Rattle.varcoef_magnus_graph_adjoint.specs.StepsTaken.{sampledStepFault, sampledStepImage}
-use Rattle.varcoef_magnus_graph_adjoint.proofs.Walk.{Walked, walk-begins, step-number, walk-ends, walk-on, walk-stops, sampled-one}
+use Rattle.varcoef_magnus_graph_adjoint_run.specs.StepsTaken.{sampledStepFault, sampledStepImage}
+use Rattle.varcoef_magnus_graph_adjoint_run.proofs.Walk.{Walked, walk-begins, step-number, walk-ends, walk-on, walk-stops, sampled-one}
 use borrow.Author.Needs.{needs}
-use Rattle.varcoef_magnus_graph_adjoint.proofs.steps.sampled_steps.Statement.{statement}
-use Rattle.varcoef_magnus_graph_adjoint.proofs.steps.sampled_steps.Tie as tie
+use Rattle.varcoef_magnus_graph_adjoint_run.proofs.kernel.sampled_steps.Statement.{statement}
+use Rattle.varcoef_magnus_graph_adjoint_run.proofs.kernel.sampled_steps.Tie as tie
 
 abbrev Inv-loop : tie.InvT-loop
 Inv-loop row-ptr col-idx starts ends a-starts a-ends n steps work₀ first counter₀ work segment counter =

@@ -34,9 +34,9 @@ use Rattle.graph_traj_segment.specs.Times.{c1, c2, adjointStepStart, sampleTime
 use Rattle.magnus_graph_traj_run.specs.RunSteps.{RunStep, segmentSteps, firstFault}
 use Rattle.varcoef_magnus_graph_traj_step.specs.StepTaken.{Kept, StepTaken, stepImage}
 use Rattle.varcoef_magnus_graph_traj_step.proofs.Kept.{kept-all, kept-then, kept-put}
-use Rattle.varcoef_magnus_graph_adjoint.specs.StepsTaken.{StepsTaken, sampledStepFault, sampledStepImage}
-use Rattle.varcoef_magnus_graph_adjoint.proofs.StepsTaken.{run-along-append, first-fault-append, refusal-stays, segment-grows}
-use Rattle.varcoef_magnus_graph_adjoint.proofs.StepsTaken.{none-taken, one-taken, more-taken, stays-refused}
+use Rattle.varcoef_magnus_graph_adjoint_run.specs.StepsTaken.{StepsTaken, sampledStepFault, sampledStepImage}
+use Rattle.varcoef_magnus_graph_adjoint_run.proofs.StepsTaken.{run-along-append, first-fault-append, refusal-stays, segment-grows}
+use Rattle.varcoef_magnus_graph_adjoint_run.proofs.StepsTaken.{none-taken, one-taken, more-taken, stays-refused}
 
 -- step j of the one segment, and the segment's value before it
 abbrev pub stepOf : ℕ → RunStep

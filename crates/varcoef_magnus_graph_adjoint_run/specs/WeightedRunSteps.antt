@@ -1,7 +1,6 @@
 -- The steps of a weighted run along a trajectory (01, parts 7, 8 and 10; "Added by design"). The weights of the nodes, a start list and an
 -- end list, follow the law of the values, at the same times. Which steps there are and where their samples lie is said for all runs in
 -- the crate magnus_graph_traj_run. Assumes nothing.
-use mathlib.Core.Bool.{Bool, _&&_}
 use mathlib.Core.List.{List, map}
 use lib.ListN.{getD}
 use lib.Ieee.{Float, binary64}
@@ -9,18 +8,14 @@ use Rattle.arithmetic.specs.Arithmetic.{ieee}
 use Rattle.square_root.specs.SquareRoot.{squareRoot}
 use Rattle.error.specs.Checks.{next}
 use Rattle.error.specs.declared.Checked.{Checked}
-use Rattle.magnus.specs.Operators.{weighted, plainSum}
-use Rattle.magnus.specs.Coefficients.{reciprocalFactorial}
-use Rattle.magnus.specs.Agree.{agree}
-use Rattle.magnus.specs.Formed.{FormedOperator, formedWeighted, formedStep4}
+use Rattle.magnus.specs.Operators.{weighted}
 use Rattle.magnus_graph_step.specs.Omega4.{expOmega4}
 use Rattle.varcoef_magnus_graph_checks.specs.WeightedStepChecks.{weightFault}
 use Rattle.varcoef_magnus_graph.specs.WeightedOmega4.{sqrt3Over12}
 use Rattle.graph_traj_segment.specs.Laws.{valuesAt}
 use Rattle.graph_traj_segment.specs.Times.{c1, c2}
 use Rattle.graph_traj_parts.specs.Trajectory.{Trajectory}
-use Rattle.magnus_graph_traj_run.specs.RunSteps.{RunStep, Course, fractionAt, sampleAt, product, runStepFault}
-use Rattle.magnus_graph_traj.specs.PlainSteps.{formedRunProduct, stepAgrees}
+use Rattle.magnus_graph_traj_run.specs.RunSteps.{RunStep, Course, fractionAt, product, runStepFault}
 
 module _ (t : Trajectory) (startWeights endWeights : List Float) (course : Course) where
   -- the weights at the Gauss node c of a step, by the law of its segment
@@ -42,21 +37,3 @@ module _ (t : Trajectory) (startWeights endWeights : List Float) (course : Cours
   abbrev pub weightedRunStepImage : Float → RunStep → List Float → List Float
   weightedRunStepImage sign s =
       expOmega4 binary64 (t .nodes) sqrt3Over12 sign (course .tau s) (weightedProduct s c1) (weightedProduct s c2)
-
-  -- the same with, for each signal, whether every number formed is finite
-  abbrev pub formedWeightedProduct : RunStep → Float → FormedOperator
-  formedWeightedProduct s c = formedWeighted binary64 (t .nodes) (roots s c) (formedRunProduct t course s c)
-
-  abbrev pub formedWeightedRunStep : Float → RunStep → FormedOperator
-  formedWeightedRunStep sign s =
-      formedStep4 binary64 (t .nodes) (reciprocalFactorial binary64) 4 sqrt3Over12 sign (course .tau s)
-      (formedWeightedProduct s c1) (formedWeightedProduct s c2)
-
-  -- demand 3's premises on a step: its samples and its weights agree, and its τ is 0 or at least 2 ^ -1021
-  abbrev pub weightedStepAgrees : RunStep → Bool
-  weightedStepAgrees s = stepAgrees t course s && agree (weightsAt s c1) (weightsAt s c2)
-
-  -- a step of the plain run (01, demand 3): the plain sum of degree 4 with the weighted product of the first sample alone
-  abbrev pub weightedPlainStep : RunStep → List Float → List Float
-  weightedPlainStep s =
-      plainSum (ieee binary64) (t .nodes) (reciprocalFactorial binary64) 4 (course .tau s) (weightedProduct s c1)

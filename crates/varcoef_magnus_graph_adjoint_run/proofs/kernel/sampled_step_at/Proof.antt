@@ -3,10 +3,10 @@ use mathlib.Core.Path.{ap, _∙_}
 use lib.Ieee.{Float}
 use Rattle.graph_traj_segment.specs.Laws.{fraction}
 use Rattle.graph_traj_segment.specs.Times.{c1, c2, sampleTime}
-use Rattle.varcoef_magnus_graph_adjoint.proofs.Walk.{sampled-at}
+use Rattle.varcoef_magnus_graph_adjoint_run.proofs.Walk.{sampled-at}
 use borrow.Author.Needs.{needs}
-use Rattle.varcoef_magnus_graph_adjoint.proofs.steps.sampled_step_at.Statement.{statement}
-use Rattle.varcoef_magnus_graph_adjoint.proofs.steps.sampled_step_at.Tie as tie
+use Rattle.varcoef_magnus_graph_adjoint_run.proofs.kernel.sampled_step_at.Statement.{statement}
+use Rattle.varcoef_magnus_graph_adjoint_run.proofs.kernel.sampled_step_at.Tie as tie
 
 adjoint-step-start-requires : tie.Need-adjoint-step-start-requires
 adjoint-step-start-requires c κs =

@@ -23,10 +23,10 @@ use Rattle.graph_traj_segment.specs.Times.{c1, c2}
 use Rattle.graph_traj_parts.specs.Trajectory.{Trajectory, AcceptedAdjointTrajectory}
 use Rattle.graph_traj_samples.specs.Sampled.{sampledFault}
 use Rattle.magnus_graph_traj_run.specs.RunSteps.{RunStep, adjointCourse, segmentSteps, sampleAt, fractionAt, runStepFault}
-use Rattle.varcoef_magnus_graph_adjoint.specs.WeightedRunSteps.{weightsAt, weightedRunStepFault, weightedRunStepImage}
+use Rattle.varcoef_magnus_graph_adjoint_run.specs.WeightedRunSteps.{weightsAt, weightedRunStepFault, weightedRunStepImage}
 use Rattle.varcoef_magnus_graph_traj_step.specs.StepTaken.{stepImage}
-use Rattle.varcoef_magnus_graph_adjoint.specs.StepsTaken.{StepsTaken, sampledStepFault, sampledStepImage}
-use Rattle.varcoef_magnus_graph_adjoint.proofs.Walk.{stepOf, same-taken}
+use Rattle.varcoef_magnus_graph_adjoint_run.specs.StepsTaken.{StepsTaken, sampledStepFault, sampledStepImage}
+use Rattle.varcoef_magnus_graph_adjoint_run.proofs.Walk.{stepOf, same-taken}
 
 -- the one segment's list is the whole pool
 whole-pool : (m : ℕ) (pool : List Float) → length pool ≡ m → part (0 * m) m pool ≡ pool

@@ -19,7 +19,7 @@ use Rattle.magnus_graph_checks.proofs.StepSound.{refused-not-accepted}
 use Rattle.magnus_graph_traj_run.specs.RunSteps.{RunStep, segmentSteps, firstFault}
 use Rattle.varcoef_magnus_graph_traj_step.specs.StepTaken.{Kept}
 use Rattle.varcoef_magnus_graph_traj_step.proofs.Kept.{kept-all, kept-then}
-use Rattle.varcoef_magnus_graph_adjoint.specs.StepsTaken.{StepsTaken}
+use Rattle.varcoef_magnus_graph_adjoint_run.specs.StepsTaken.{StepsTaken}
 
 -- ---- lists of steps
 

@@ -1,0 +1,3 @@
+pub mod StepsTaken
+pub mod Walk
+pub mod ByLaw

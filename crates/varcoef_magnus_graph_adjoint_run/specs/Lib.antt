@@ -1,0 +1,2 @@
+pub mod WeightedRunSteps
+pub mod StepsTaken
