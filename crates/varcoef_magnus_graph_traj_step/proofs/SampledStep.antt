@@ -30,10 +30,10 @@ use Rattle.varcoef_magnus_graph.specs.WeightedOmega4.{sqrt3Over12}
 use Rattle.graph_traj_segment.specs.Laws.{lawValues}
 use Rattle.graph_traj_samples.specs.Sampled.{sampledFault}
 use Rattle.varcoef_magnus_graph_traj_step.specs.StepTaken.{Kept, StepTaken}
-use Rattle.varcoef_magnus_graph_traj_step.specs.WeightedPairs.{rootPairs}
+use Rattle.varcoef_magnus_graph_pairs.specs.WeightedPairs.{rootPairs}
 use Rattle.varcoef_magnus_graph_traj_step.proofs.Kept.{kept-then, kept-put}
 use Rattle.varcoef_magnus_graph_traj_step.proofs.Terms.{sampledOmega}
-use Rattle.varcoef_magnus_graph_traj_step.proofs.WeightedPairs.{first-roots, second-roots}
+use Rattle.varcoef_magnus_graph_pairs.proofs.WeightedPairs.{first-roots, second-roots}
 
 -- the values of the one segment, whose lists are the whole pools
 whole-pool : (m : ℕ) (pool : List Float) → length pool ≡ m → part (0 * m) m pool ≡ pool

@@ -19,9 +19,9 @@ use Rattle.magnus_graph_helpers.specs.Terms.{omega4Sum, omega4-sum, TermAdded, 
 use Rattle.magnus_graph_helpers.proofs.Terms.{ProductPlaced, room-left, term-added, term4-constant-added}
 use Rattle.varcoef_magnus_graph_step.specs.WeightedOmega4.{weightedOmega4}
 use Rattle.varcoef_magnus_graph_products.proofs.WeightedProduct.{weighted-written, weighted-placed, roots-kept}
-use Rattle.varcoef_magnus_graph_traj_step.specs.WeightedPairs.{scaledPairs, rootedPairs}
-use Rattle.varcoef_magnus_graph_traj_step.proofs.WeightedPairs.{first-scaled, second-scaled, first-multiplied, second-multiplied}
-use Rattle.varcoef_magnus_graph_traj_step.proofs.WeightedPairs.{first-rooted, second-rooted}
+use Rattle.varcoef_magnus_graph_pairs.specs.WeightedPairs.{scaledPairs, rootedPairs}
+use Rattle.varcoef_magnus_graph_pairs.proofs.WeightedPairs.{first-scaled, second-scaled, first-multiplied, second-multiplied}
+use Rattle.varcoef_magnus_graph_pairs.proofs.WeightedPairs.{first-rooted, second-rooted}
 
 abbrev A : Arithmetic Float
 A = ieee binary64

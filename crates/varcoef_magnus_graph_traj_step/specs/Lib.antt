@@ -1,2 +1,1 @@
 pub mod StepTaken
-pub mod WeightedPairs

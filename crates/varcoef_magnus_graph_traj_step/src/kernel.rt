@@ -24,10 +24,6 @@ ghost use Rattle.magnus_graph_helpers.specs.Terms.{TermAdded, TermsAdded};
 ghost use Rattle.varcoef_magnus_graph_step.specs.WeightedOmega4.{weightedOmega4};
 ghost use Rattle.graph_traj_segment.specs.Laws.{lawValues};
 ghost use Rattle.varcoef_magnus_graph_traj_step.specs.StepTaken.{StepTaken};
-use crate::pairs::root_pairs_in;
-use crate::pairs::rooted_omega_in;
-use crate::pairs::rooted_products_in;
-use crate::pairs::scale_in;
 use error::Checked;
 use graph_traj_samples::kernel::sample;
 use graph_traj_segment::kernel::law_value;
@@ -38,6 +34,10 @@ use scratch_products::kernel::multiply;
 use scratch_sums::kernel::add_scaled;
 use varcoef_magnus_graph::SQRT3_OVER_12_F64;
 use varcoef_magnus_graph_checks::check_sample_weights;
+use varcoef_magnus_graph_pairs::kernel::root_pairs_in;
+use varcoef_magnus_graph_pairs::kernel::rooted_omega_in;
+use varcoef_magnus_graph_pairs::kernel::rooted_products_in;
+use varcoef_magnus_graph_pairs::kernel::scale_in;
 use varcoef_magnus_graph_products::kernel::rooted_product_in;
 
 // ---- two samples of law 2

@@ -13,9 +13,9 @@ use Rattle.graph_rows.specs.RowProduct.{rowSum64}
 use Rattle.graph_scratch.proofs.WorkSlice.{lent-part, length-lent-part, outside-kept}
 use Rattle.graph_pairs.specs.Pairs.{alternate, firsts, seconds}
 use Rattle.graph_pairs.proofs.Pairs.{pair-written}
-use Rattle.varcoef_magnus_graph_traj_step.proofs.Behind.{read-behind}
-use Rattle.varcoef_magnus_graph_traj_step.proofs.pairs.rooted_products_in.Statement.{statement}
-use Rattle.varcoef_magnus_graph_traj_step.proofs.pairs.rooted_products_in.Tie as tie
+use Rattle.varcoef_magnus_graph_pairs.proofs.Behind.{read-behind}
+use Rattle.varcoef_magnus_graph_pairs.proofs.kernel.rooted_products_in.Statement.{statement}
+use Rattle.varcoef_magnus_graph_pairs.proofs.kernel.rooted_products_in.Tie as tie
 
 abbrev Inv-loop : tie.InvT-loop
 Inv-loop row-ptr col-idx work₀ n values roots source target values-end source-end i₀ work i =

@@ -15,9 +15,9 @@ use Rattle.graph_scratch.proofs.WorkSlice.{lent-part, length-lent-part, outside
 use Rattle.graph_pairs.specs.Pairs.{firsts, seconds}
 use Rattle.graph_pairs.proofs.Pairs.{at-firsts, at-seconds, omega-place}
 use Rattle.magnus_graph_helpers.proofs.Terms.{omega4SumAt, omega4-sum-walk}
-use Rattle.varcoef_magnus_graph_traj_step.proofs.Behind.{read-behind}
-use Rattle.varcoef_magnus_graph_traj_step.proofs.pairs.rooted_omega_in.Statement.{statement}
-use Rattle.varcoef_magnus_graph_traj_step.proofs.pairs.rooted_omega_in.Tie as tie
+use Rattle.varcoef_magnus_graph_pairs.proofs.Behind.{read-behind}
+use Rattle.varcoef_magnus_graph_pairs.proofs.kernel.rooted_omega_in.Statement.{statement}
+use Rattle.varcoef_magnus_graph_pairs.proofs.kernel.rooted_omega_in.Tie as tie
 
 abbrev Inv-loop : tie.InvT-loop
 Inv-loop row-ptr col-idx work₀ n values roots source pairs target scale comm-scale values-end source-end i₀ work i =

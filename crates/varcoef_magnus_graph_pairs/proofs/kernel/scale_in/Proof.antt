@@ -10,9 +10,9 @@ use Rattle.scratch.specs.Parts.{part}
 use Rattle.scratch.proofs.Writing.{Written, written-none, written-all}
 use Rattle.graph_pairs.specs.Pairs.{alternate}
 use Rattle.graph_pairs.proofs.Pairs.{pair-written}
-use Rattle.varcoef_magnus_graph_traj_step.proofs.Behind.{read-before, read-behind}
-use Rattle.varcoef_magnus_graph_traj_step.proofs.pairs.scale_in.Statement.{statement}
-use Rattle.varcoef_magnus_graph_traj_step.proofs.pairs.scale_in.Tie as tie
+use Rattle.varcoef_magnus_graph_pairs.proofs.Behind.{read-before, read-behind}
+use Rattle.varcoef_magnus_graph_pairs.proofs.kernel.scale_in.Statement.{statement}
+use Rattle.varcoef_magnus_graph_pairs.proofs.kernel.scale_in.Tie as tie
 
 abbrev Inv-loop : tie.InvT-loop
 Inv-loop work₀ n roots source target i₀ work i =

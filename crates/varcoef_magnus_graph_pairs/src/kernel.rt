@@ -10,7 +10,7 @@ ghost use Rattle.graph_checks.specs.Pattern.{Pattern};
 ghost use Rattle.graph_rows.specs.RowProduct.{rowProduct64};
 ghost use Rattle.graph_pairs.specs.Pairs.{firsts, seconds};
 ghost use Rattle.magnus_graph_helpers.specs.Terms.{omega4Sum};
-ghost use Rattle.varcoef_magnus_graph_traj_step.specs.WeightedPairs.{rootPairs, scaledPairs, rootedPairs};
+ghost use Rattle.varcoef_magnus_graph_pairs.specs.WeightedPairs.{rootPairs, scaledPairs, rootedPairs};
 use graph_pairs::kernel::row_sums_of_two;
 use square_root::kernel::estimate;
 use square_root::kernel::root_near;

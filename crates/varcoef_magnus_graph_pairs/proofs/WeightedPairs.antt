@@ -13,7 +13,7 @@ use Rattle.square_root.specs.SquareRoot.{squareRoot}
 use Rattle.graph_rows.specs.RowProduct.{rowSum64, rowProduct64}
 use Rattle.graph_pairs.specs.Pairs.{firsts, seconds}
 use Rattle.graph_pairs.proofs.Pairs.{at-firsts, at-seconds, firsts-of-pairs, seconds-of-pairs}
-use Rattle.varcoef_magnus_graph_traj_step.specs.WeightedPairs.{rootPairs, scaledPairs, rootedPairs}
+use Rattle.varcoef_magnus_graph_pairs.specs.WeightedPairs.{rootPairs, scaledPairs, rootedPairs}
 
 abbrev A : Arithmetic Float
 A = ieee binary64

@@ -14,10 +14,10 @@ use Rattle.scratch.proofs.Writing.{Written, written-none, written-all}
 use Rattle.square_root.specs.SquareRoot.{squareRoot}
 use Rattle.graph_pairs.specs.Pairs.{alternate}
 use Rattle.graph_pairs.proofs.Pairs.{pair-written}
-use Rattle.varcoef_magnus_graph_traj_step.specs.WeightedPairs.{rootPairs}
-use Rattle.varcoef_magnus_graph_traj_step.proofs.Behind.{read-behind, Outside, outside-none, outside-more, outside-behind, outside-put}
-use Rattle.varcoef_magnus_graph_traj_step.proofs.pairs.root_pairs_in.Statement.{statement}
-use Rattle.varcoef_magnus_graph_traj_step.proofs.pairs.root_pairs_in.Tie as tie
+use Rattle.varcoef_magnus_graph_pairs.specs.WeightedPairs.{rootPairs}
+use Rattle.varcoef_magnus_graph_pairs.proofs.Behind.{read-behind, Outside, outside-none, outside-more, outside-behind, outside-put}
+use Rattle.varcoef_magnus_graph_pairs.proofs.kernel.root_pairs_in.Statement.{statement}
+use Rattle.varcoef_magnus_graph_pairs.proofs.kernel.root_pairs_in.Tie as tie
 
 abbrev Inv-loop : tie.InvT-loop
 Inv-loop work₀ n weights1 weights2 target i₀ work i =
