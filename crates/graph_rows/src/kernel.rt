@@ -6,7 +6,8 @@ ghost use Rattle.graph_checks.specs.Pattern.{Pattern};
 ghost use Rattle.graph_rows.specs.RowProduct.{rowSum64, rowProduct64};
 
 // Row i of the product with src (01, part 1): it starts at +0 and adds value * signal[column] in stored order. Every
-// product goes through this function. The whole pattern is required: n is at most 4,096, and every column is below n.
+// product with one sample goes through this function. The whole pattern is required: n is at most 4,096, and every column
+// is below n.
 pub fn row_sum(row_ptr: &[usize], col_idx: &[u32], vals: &[f64], src: &[f64], i: usize) -> f64
     requires { ⌜ Pattern (length (now src)) (now «row_ptr») (now «col_idx») ⌝ }
     requires { ⌜ length (now vals) ≡ length (now «col_idx») ⌝ }
