@@ -5,7 +5,7 @@ ghost use Rattle.error.specs.Refusals.{count};
 ghost use Rattle.graph_traj.specs.Lookup.{segmentAt};
 ghost use Rattle.graph_traj_parts.specs.Trajectory.{trajectory};
 ghost use Rattle.graph_traj_breakpoints.specs.LookupChecks.{lookupFault};
-ghost use Rattle.magnus_graph_traj.specs.RunOutcome.{forwardRun, adjointRun, Ran};
+ghost use Rattle.magnus_graph_traj_outcome.specs.RunOutcome.{forwardRun, adjointRun, Ran};
 ghost use Rattle.answer.specs.Struct.{structOf, Tells};
 use answer::Answer;
 use answer::Row;

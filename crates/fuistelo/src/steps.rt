@@ -1,7 +1,7 @@
 // The steps of order 4 and the step of order 6.
 ghost use Rattle.magnus_graph_checks.specs.StepChecks.{sample};
 ghost use Rattle.magnus_graph.specs.StepOutcome.{stepInput, Stepped, forward, adjoint};
-ghost use Rattle.magnus6_graph.specs.StepOutcome.{step6Input, Stepped6};
+ghost use Rattle.magnus6_graph_outcome.specs.StepOutcome.{step6Input, Stepped6};
 ghost use Rattle.answer.specs.Struct.{Tells};
 use answer::Answer;
 use answer::checked;

@@ -17,9 +17,9 @@ use Rattle.magnus_graph_checks.specs.AcceptedStep.{Positive}
 use Rattle.magnus_graph_checks.proofs.StepSound.{bound-accepted, room-accepted, step-length-accepted, _then_}
 use Rattle.varcoef_magnus_graph_checks.specs.WeightedStepChecks.{weightedBound}
 use Rattle.varcoef_magnus_graph_checks.proofs.WeightedStepSound.{weights-length-accepted, weighted-bounds-accepted}
-use Rattle.graph_traj_checks.specs.RunChecks.{runNeed}
-use Rattle.graph_traj_checks.specs.AcceptedRun.{Signals}
-use Rattle.graph_traj_checks.proofs.RunSound.{signals-accepted, run-lengths-accepted}
+use Rattle.graph_traj_faults.specs.RunChecks.{runNeed}
+use Rattle.graph_traj_faults.specs.AcceptedRun.{Signals}
+use Rattle.graph_traj_faults.proofs.RunSound.{signals-accepted, run-lengths-accepted}
 use Rattle.graph_traj_adjoint_checks.specs.AdjointRunChecks.{adjointStepCountFault, weightedRunNeed, weightedRunLengthsFault}
 use Rattle.graph_traj_adjoint_checks.specs.AdjointRunChecks.{adjointStepsFault, adjointRunFault, weightedAdjointRunFault}
 use Rattle.graph_traj_adjoint_checks.specs.AcceptedAdjointRun.{Steps, AcceptedAdjointRun, AcceptedWeightedAdjointRun}

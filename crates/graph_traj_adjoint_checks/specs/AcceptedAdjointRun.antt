@@ -6,8 +6,8 @@ use lib.Ieee.{Float}
 use Rattle.graph_traj_parts.specs.Trajectory.{Trajectory, AcceptedAdjointTrajectory}
 use Rattle.magnus_graph_checks.specs.AcceptedStep.{Positive, NotNegative, WithinRadius}
 use Rattle.varcoef_magnus_graph_checks.specs.WeightedStepChecks.{weightedBound}
-use Rattle.graph_traj_checks.specs.RunChecks.{runNeed}
-use Rattle.graph_traj_checks.specs.AcceptedRun.{Signals}
+use Rattle.graph_traj_faults.specs.RunChecks.{runNeed}
+use Rattle.graph_traj_faults.specs.AcceptedRun.{Signals}
 use Rattle.graph_traj_adjoint_checks.specs.AdjointRunChecks.{weightedRunNeed}
 
 -- the steps of an adjoint run, where it has any (rows 16, 7, 8)

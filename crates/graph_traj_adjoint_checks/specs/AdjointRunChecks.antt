@@ -12,7 +12,7 @@ use Rattle.graph_traj_parts.specs.Trajectory.{Trajectory}
 use Rattle.graph_traj_parts.specs.TrajectoryChecks.{adjointTrajectoryFault}
 use Rattle.magnus_graph_checks.specs.StepChecks.{boundFault, stepLengthFault, roomFault}
 use Rattle.varcoef_magnus_graph_checks.specs.WeightedStepChecks.{weightedBoundsFault, weightedBound, weightsLengthFault}
-use Rattle.graph_traj_checks.specs.RunChecks.{runNeed, signalsFault, runLengthsFault}
+use Rattle.graph_traj_faults.specs.RunChecks.{runNeed, signalsFault, runLengthsFault}
 
 -- ---- the rows of the table
 

@@ -1,3 +1,1 @@
-pub mod Each
 pub mod SegmentsRadius
-pub mod RunSound

@@ -12,9 +12,9 @@ use Rattle.graph_traj_segment.specs.declared.kernel.Segment.{Segment}
 use Rattle.graph_traj_breakpoints.specs.Breakpoints.{breakpoint}
 use Rattle.graph_traj_segment.specs.SegmentValue.{segmentOf}
 use Rattle.magnus_graph_checks.specs.StepChecks.{radiusFault}
-use Rattle.graph_traj_checks.specs.Each.{each}
-use Rattle.graph_traj_checks.specs.RunChecks.{tauOf, segmentsRadiusFault}
-use Rattle.graph_traj_checks.proofs.Each.{each-none, each-accepted-then, each-refused-here}
+use Rattle.graph_traj_faults.specs.Each.{each}
+use Rattle.graph_traj_faults.specs.RunChecks.{tauOf, segmentsRadiusFault}
+use Rattle.graph_traj_faults.proofs.Each.{each-none, each-accepted-then, each-refused-here}
 
 -- the check of segment i
 abbrev At : Bool → Float → ℕ → List Float → ℕ → Checked

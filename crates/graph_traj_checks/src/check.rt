@@ -3,7 +3,7 @@ ghost use mathlib.Core.Path.{_≡_};
 ghost use Prim.Native.Nat.{_≤_};
 ghost use Rattle.graph_traj_breakpoints.specs.Breakpoints.{Breakpoints};
 ghost use Rattle.graph_traj_parts.specs.Trajectory.{trajectory};
-ghost use Rattle.graph_traj_checks.specs.RunChecks.{stepCountFault, segmentsRadiusFault, signalsFault, runLengthsFault, runFault};
+ghost use Rattle.graph_traj_faults.specs.RunChecks.{stepCountFault, segmentsRadiusFault, signalsFault, runLengthsFault, runFault};
 use error::Checked;
 use error::Refusal;
 use error::check_length;

@@ -10,7 +10,7 @@ use Rattle.magnus_graph_checks.specs.StepChecks.{Sample, sample}
 use Rattle.magnus_graph.specs.StepOutcome.{StepInput, stepInput, Stepped, stepAnswer, stepOutput, forward, adjoint}
 use Rattle.varcoef_magnus_graph.specs.StepOutcome.{StepInput as WeightedInput, stepInput as weightedInput, Stepped as WeightedStepped}
 use Rattle.varcoef_magnus_graph.specs.StepOutcome.{stepAnswer as weightedAnswer, stepOutput as weightedOutput}
-use Rattle.magnus6_graph.specs.StepOutcome.{Step6Input, step6Input, Stepped6, step6Answer, step6Output}
+use Rattle.magnus6_graph_outcome.specs.StepOutcome.{Step6Input, step6Input, Stepped6, step6Answer, step6Output}
 use Rattle.job_format.specs.JobFormat.{Job}
 use Rattle.job_step.specs.JobOutcome.{jobSign, jobStep, jobWeightedStep, jobStep6, jobStepAnswer, jobStepOutput}
 use Rattle.job_step.specs.Stepped.{Fields, Numbers, Taken}

@@ -1,6 +1,6 @@
 // Runs along a trajectory: the forward run (magnus_graph.rs; 01, part 10) and the adjoint run (magnus_graph_adjoint.rs; 01, part 8).
 ghost use Rattle.graph_traj_parts.specs.Trajectory.{trajectory};
-ghost use Rattle.magnus_graph_traj.specs.RunOutcome.{forwardRun, adjointRun, Ran};
+ghost use Rattle.magnus_graph_traj_outcome.specs.RunOutcome.{forwardRun, adjointRun, Ran};
 use error::Checked;
 use graph_traj_adjoint_checks::check_adjoint_run;
 use graph_traj_checks::check::check_run;

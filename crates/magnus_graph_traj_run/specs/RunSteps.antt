@@ -18,7 +18,7 @@ use Rattle.graph_traj_breakpoints.specs.Breakpoints.{breakpoint}
 use Rattle.graph_traj_segment.specs.Times.{c1, c2, stepStart, adjointStepStart, sampleTime}
 use Rattle.graph_traj_parts.specs.Trajectory.{Trajectory}
 use Rattle.graph_traj_samples.specs.Sampled.{sampledFault}
-use Rattle.graph_traj_checks.specs.RunChecks.{tauOf}
+use Rattle.graph_traj_faults.specs.RunChecks.{tauOf}
 
 -- ---- which steps
 

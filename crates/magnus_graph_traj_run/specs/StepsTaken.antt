@@ -13,7 +13,7 @@ use Rattle.graph_traj_segment.specs.declared.kernel.Segment.{Segment}
 use Rattle.graph_traj_segment.specs.Laws.{fraction}
 use Rattle.graph_traj_segment.specs.Times.{c1, c2, sampleTime}
 use Rattle.graph_traj_parts.specs.Trajectory.{Trajectory}
-use Rattle.graph_traj_checks.specs.RunChecks.{runNeed}
+use Rattle.graph_traj_faults.specs.RunChecks.{runNeed}
 use Rattle.magnus_graph_traj_run.specs.RunSteps.{RunStep, Course, runStepFault, runStepImage, firstFault}
 use Rattle.magnus_graph_traj_step.specs.RunStepTaken.{RunStepTaken}
 

@@ -3,7 +3,7 @@
 ghost use Prim.Native.Nat.{_≤_, _<_};
 ghost use lib.ListN.{length};
 ghost use Rattle.graph_traj_parts.specs.Trajectory.{trajectory, AcceptedTrajectory};
-ghost use Rattle.graph_traj_checks.specs.RunChecks.{runNeed};
+ghost use Rattle.graph_traj_faults.specs.RunChecks.{runNeed};
 ghost use Rattle.magnus_graph.specs.StepOutcome.{forward, adjoint};
 ghost use Rattle.magnus_graph_traj_run.specs.RunSteps.{segmentSteps, allSteps, forwardCourse, adjointCourse};
 ghost use Rattle.magnus_graph_traj_run.specs.StepsTaken.{StepAt, StepsTaken};

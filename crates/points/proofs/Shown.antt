@@ -21,7 +21,7 @@ use Rattle.graph_traj_parts.specs.TrajectoryChecks.{firstBreakpointFault}
 use Rattle.graph_traj_breakpoints.specs.LookupChecks.{lookupTimeFault, lookupFault}
 use Rattle.graph_traj_lists.specs.ListChecks.{lawsFault, countsFault, listsFault}
 use Rattle.graph_traj_parts.specs.TrajectoryChecks.{adjointTrajectoryFault}
-use Rattle.graph_traj_checks.specs.RunChecks.{signalsFault}
+use Rattle.graph_traj_faults.specs.RunChecks.{signalsFault}
 use Rattle.graph_traj_adjoint_checks.specs.AdjointRunChecks.{adjointRunFault}
 use Rattle.job_format.specs.JobFormat.{word16, real as wordReal, words16, reals as wordReals, stands, required, allowed, fieldSizes}
 use Rattle.job_format.specs.JobFormat.{fieldStart, jobMap, jobNodes, jobEntries, jobHas, jobField, malformed, malformedFault}

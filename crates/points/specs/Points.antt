@@ -17,7 +17,7 @@ use Rattle.job_points.specs.ExampleJob.{exampleJob}
 use Rattle.job_step.specs.JobOutcome.{jobAnswer, jobOutput}
 use Rattle.magnus_graph_checks.specs.StepChecks.{Sample, sample}
 use Rattle.magnus_graph.specs.StepOutcome.{StepInput, stepInput, forward, adjoint, stepAnswer, stepOutput, stepWork}
-use Rattle.magnus_graph_traj.specs.RunOutcome.{adjointRun, runAnswer, runOutput, runWork}
+use Rattle.magnus_graph_traj_outcome.specs.RunOutcome.{adjointRun, runAnswer, runOutput, runWork}
 use Rattle.square_root.specs.SquareRoot.{squareRoot}
 use Rattle.varcoef_magnus_graph.specs.StepOutcome as Weighted
 

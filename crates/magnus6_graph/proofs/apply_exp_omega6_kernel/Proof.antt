@@ -2,8 +2,8 @@
 -- step's. Demand 3 follows from the definitions. Assumes nothing.
 use borrow.Author.Needs.{needs}
 use Rattle.magnus_graph_checks.specs.StepChecks.{sample}
-use Rattle.magnus6_graph.specs.StepOutcome.{Step6Input, step6Input}
-use Rattle.magnus6_graph.proofs.StepOutcome.{step6-refused, kernel-asks, step6-taken}
+use Rattle.magnus6_graph_outcome.specs.StepOutcome.{Step6Input, step6Input}
+use Rattle.magnus6_graph_outcome.proofs.StepOutcome.{step6-refused, kernel-asks, step6-taken}
 use Rattle.magnus6_graph.proofs.apply_exp_omega6_kernel.Statement.{statement}
 use Rattle.magnus6_graph.proofs.apply_exp_omega6_kernel.Tie as tie
 

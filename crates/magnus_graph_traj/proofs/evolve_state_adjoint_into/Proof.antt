@@ -8,9 +8,9 @@ use Rattle.scratch.specs.Parts.{part}
 use Rattle.scratch.proofs.Parts.{part-whole}
 use native.Mathlib.Omega.{arith}
 use Rattle.graph_traj_parts.specs.Trajectory.{trajectory}
-use Rattle.magnus_graph_traj.proofs.RunOutcome.{run-refused, run-copied, run-stopped, run-done}
-use Rattle.magnus_graph_traj.proofs.AcceptedRuns.{Lent, adjointOf, adjoint-accepted, adjoint-lengths, adjoint-some}
-use Rattle.magnus_graph_traj.proofs.AcceptedRuns.{adjoint-none, adjoint-format}
+use Rattle.magnus_graph_traj_outcome.proofs.RunOutcome.{run-refused, run-copied, run-stopped, run-done}
+use Rattle.magnus_graph_traj_outcome.proofs.AcceptedRuns.{Lent, adjointOf, adjoint-accepted, adjoint-lengths, adjoint-some}
+use Rattle.magnus_graph_traj_outcome.proofs.AcceptedRuns.{adjoint-none, adjoint-format}
 use borrow.Author.Needs.{needs}
 use Rattle.magnus_graph_traj.proofs.evolve_state_adjoint_into.Statement.{statement}
 use Rattle.magnus_graph_traj.proofs.evolve_state_adjoint_into.Tie as tie

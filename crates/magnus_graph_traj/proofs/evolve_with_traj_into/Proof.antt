@@ -3,8 +3,8 @@
 -- follows from the definitions. Assumes nothing.
 use native.Mathlib.Omega.{arith}
 use Rattle.graph_traj_parts.specs.Trajectory.{trajectory}
-use Rattle.magnus_graph_traj.proofs.RunOutcome.{run-refused, run-stopped, run-done}
-use Rattle.magnus_graph_traj.proofs.AcceptedRuns.{Lent, forwardOf, forward-accepted, forward-lengths, forward-some, forward-format}
+use Rattle.magnus_graph_traj_outcome.proofs.RunOutcome.{run-refused, run-stopped, run-done}
+use Rattle.magnus_graph_traj_outcome.proofs.AcceptedRuns.{Lent, forwardOf, forward-accepted, forward-lengths, forward-some, forward-format}
 use borrow.Author.Needs.{needs}
 use Rattle.magnus_graph_traj.proofs.evolve_with_traj_into.Statement.{statement}
 use Rattle.magnus_graph_traj.proofs.evolve_with_traj_into.Tie as tie

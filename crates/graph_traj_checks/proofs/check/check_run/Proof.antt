@@ -5,8 +5,8 @@ use native.Mathlib.Omega.{arith}
 use borrow.Author.Needs.{needs}
 use Rattle.error.proofs.Checks.{refused-here, accepted-then}
 use Rattle.graph_traj_parts.proofs.TrajectorySound.{trajectory-accepted}
-use Rattle.graph_traj_checks.specs.RunChecks.{runFault}
-use Rattle.graph_traj_checks.proofs.RunSound.{step-count-accepted}
+use Rattle.graph_traj_faults.specs.RunChecks.{runFault}
+use Rattle.graph_traj_faults.proofs.RunSound.{step-count-accepted}
 use Rattle.graph_traj_checks.proofs.check.check_run.Statement.{statement}
 use Rattle.graph_traj_checks.proofs.check.check_run.Tie as tie
 

@@ -1,7 +1,7 @@
 -- `check_run_lengths` meets its contract: it makes the checks of `runLengthsFault` in their order. Assumes nothing.
 use borrow.Author.Needs.{needs}
 use Rattle.error.proofs.Checks.{refused-here, accepted-then}
-use Rattle.graph_traj_checks.specs.RunChecks.{runLengthsFault}
+use Rattle.graph_traj_faults.specs.RunChecks.{runLengthsFault}
 use Rattle.graph_traj_checks.proofs.check.check_run_lengths.Statement.{statement}
 use Rattle.graph_traj_checks.proofs.check.check_run_lengths.Tie as tie
 

@@ -2,7 +2,7 @@
 use borrow.Author.Needs.{needs}
 use Rattle.error.proofs.Checks.{refused-here, accepted-then}
 use Rattle.error.proofs.Left.{fault-is}
-use Rattle.graph_traj_checks.specs.RunChecks.{signalsFault}
+use Rattle.graph_traj_faults.specs.RunChecks.{signalsFault}
 use Rattle.graph_traj_checks.proofs.check.check_signals.Statement.{statement}
 use Rattle.graph_traj_checks.proofs.check.check_signals.Tie as tie
 

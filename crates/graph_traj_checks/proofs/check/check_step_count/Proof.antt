@@ -1,6 +1,6 @@
 -- `check_step_count` meets its contract: it makes the test of `stepCountFault`. Assumes nothing.
 use Rattle.error.proofs.Checks.{refuses, accepts}
-use Rattle.graph_traj_checks.specs.RunChecks.{stepCountFault}
+use Rattle.graph_traj_faults.specs.RunChecks.{stepCountFault}
 use Rattle.graph_traj_checks.proofs.check.check_step_count.Statement.{statement}
 use Rattle.graph_traj_checks.proofs.check.check_step_count.Tie as tie
 

@@ -16,13 +16,13 @@ use Rattle.error.specs.declared.Checked.the-variants.{Accepted}
 use Rattle.magnus.specs.Agree.{OfFormat}
 use Rattle.graph_traj_segment.specs.Times.{segmentTau}
 use Rattle.graph_traj_parts.specs.Trajectory.{Trajectory}
-use Rattle.graph_traj_checks.specs.AcceptedRun.{AcceptedRun}
+use Rattle.graph_traj_faults.specs.AcceptedRun.{AcceptedRun}
 use Rattle.graph_traj_adjoint_checks.specs.AcceptedAdjointRun.{AcceptedAdjointRun}
-use Rattle.graph_traj_checks.proofs.RunSound.{run-accepted}
+use Rattle.graph_traj_faults.proofs.RunSound.{run-accepted}
 use Rattle.graph_traj_adjoint_checks.proofs.AdjointRunSound.{adjoint-run-accepted}
 use Rattle.magnus_graph_traj_run.specs.RunSteps.{segmentSteps, allSteps}
-use Rattle.magnus_graph_traj.specs.RunOutcome.{Run, forwardRun, adjointRun}
-use Rattle.magnus_graph_traj.proofs.RunOutcome.{RunOfFormat, RunLengths}
+use Rattle.magnus_graph_traj_outcome.specs.RunOutcome.{Run, forwardRun, adjointRun}
+use Rattle.magnus_graph_traj_outcome.proofs.RunOutcome.{RunOfFormat, RunLengths}
 
 -- ---- how many steps
 

@@ -26,7 +26,7 @@ use Rattle.magnus6_graph_checks.proofs.Step6Sound.{step6-accepted}
 use Rattle.magnus_graph.specs.StepOutcome.{StepInput}
 use Rattle.magnus_graph.proofs.StepOutcome.{valued}
 use Rattle.magnus6_graph_helpers.specs.Omega6Step.{expOmega6}
-use Rattle.magnus6_graph.specs.StepOutcome.{Step6Input, step6Answer, Stepped6}
+use Rattle.magnus6_graph_outcome.specs.StepOutcome.{Step6Input, step6Answer, Stepped6}
 
 module _ (s : Step6Input) {check : Checked} (made : check ≡ step6Answer s) where
   open StepInput (s .lent) using (first, second, tau, bound, checked, signal, output, work)

@@ -27,12 +27,12 @@ use Rattle.magnus_graph.specs.Omega4.{sqrt3Over12}
 use Rattle.magnus_graph_checks.proofs.StepSound.{refused-not-accepted}
 use Rattle.graph_traj_segment.specs.Times.{c1, c2}
 use Rattle.graph_traj_parts.specs.Trajectory.{Trajectory}
-use Rattle.graph_traj_checks.specs.RunChecks.{runNeed}
+use Rattle.graph_traj_faults.specs.RunChecks.{runNeed}
 use Rattle.magnus_graph_traj_run.specs.RunSteps.{RunStep, runStepFault, runStepImage, firstFault}
-use Rattle.magnus_graph_traj.specs.PlainSteps.{formedRunStep, stepAgrees, plainStep}
+use Rattle.magnus_graph_traj_outcome.specs.PlainSteps.{formedRunStep, stepAgrees, plainStep}
 use Rattle.magnus_graph_traj_run.specs.StepsTaken.{StepsTaken}
-use Rattle.magnus_graph_traj.specs.RunOutcome.{Run, runAnswer, PlainRun, Ran}
-use Rattle.magnus_graph_traj.proofs.SampledFormat.{sample-of-format}
+use Rattle.magnus_graph_traj_outcome.specs.RunOutcome.{Run, runAnswer, PlainRun, Ran}
+use Rattle.magnus_graph_traj_outcome.proofs.SampledFormat.{sample-of-format}
 
 -- what a run is lent is of the format, and so is each step's τ
 pub record RunOfFormat (run : Run) : Type 0 where

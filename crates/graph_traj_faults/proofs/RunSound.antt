@@ -13,10 +13,10 @@ use Rattle.graph_traj_parts.specs.Trajectory.{Trajectory}
 use Rattle.graph_traj_parts.proofs.TrajectorySound.{first-breakpoint-accepted, trajectory-accepted}
 use Rattle.magnus_graph_checks.specs.AcceptedStep.{WithinRadius}
 use Rattle.magnus_graph_checks.proofs.StepSound.{bound-accepted, radius-accepted, room-accepted, _then_}
-use Rattle.graph_traj_checks.specs.RunChecks.{stepCountFault, tauOf, segmentsRadiusFault, runNeed, signalsFault}
-use Rattle.graph_traj_checks.specs.RunChecks.{runLengthsFault, runFault}
-use Rattle.graph_traj_checks.specs.AcceptedRun.{Signals, AcceptedRun}
-use Rattle.graph_traj_checks.proofs.Each.{each-accepted}
+use Rattle.graph_traj_faults.specs.RunChecks.{stepCountFault, tauOf, segmentsRadiusFault, runNeed, signalsFault}
+use Rattle.graph_traj_faults.specs.RunChecks.{runLengthsFault, runFault}
+use Rattle.graph_traj_faults.specs.AcceptedRun.{Signals, AcceptedRun}
+use Rattle.graph_traj_faults.proofs.Each.{each-accepted}
 
 pub step-count-accepted : (steps : ℕ) → (stepCountFault steps ≡ Accepted) ↔ ((0 < steps) × (steps ≤ 65535))
 unfolding stepCountFault

@@ -10,7 +10,7 @@ use Rattle.error.specs.declared.Refusal.{Refusal}
 use Rattle.error.specs.declared.Checked.{Checked}
 use Rattle.error.specs.declared.Checked.the-variants.{Accepted, Refused}
 use Rattle.error.proofs.Checks.{next-accepted, next-refused, accepted-then}
-use Rattle.graph_traj_checks.specs.Each.{each}
+use Rattle.graph_traj_faults.specs.Each.{each}
 
 module _ (check : ℕ → Checked) where
   pub each-accepted : (n : ℕ) → (each check n ≡ Accepted) ↔ ((i : ℕ) → i < n → check i ≡ Accepted)

@@ -1,3 +1,3 @@
+pub mod AcceptedRun
 pub mod Each
 pub mod RunChecks
-pub mod AcceptedRun

@@ -5,7 +5,7 @@ use Prim.Native.Nat.{ℕ, _≤_, _<_}
 use lib.Ieee.{Float}
 use Rattle.graph_traj_parts.specs.Trajectory.{Trajectory, AcceptedTrajectory, FromZero}
 use Rattle.magnus_graph_checks.specs.AcceptedStep.{Positive, WithinRadius}
-use Rattle.graph_traj_checks.specs.RunChecks.{tauOf, runNeed}
+use Rattle.graph_traj_faults.specs.RunChecks.{tauOf, runNeed}
 
 -- the signal and the output have n places (row 10)
 pub record Signals (n signal output : ℕ) : Type 0 where

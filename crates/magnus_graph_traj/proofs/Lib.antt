@@ -1,3 +1,0 @@
-pub mod SampledFormat
-pub mod RunOutcome
-pub mod AcceptedRuns

@@ -1,0 +1,3 @@
+pub mod AcceptedRuns
+pub mod RunOutcome
+pub mod SampledFormat
