@@ -9,9 +9,9 @@ use Rattle.error.specs.declared.Refusal.{Refusal}
 use Rattle.error.specs.declared.Checked.{Checked}
 use Rattle.error.specs.declared.Checked.the-variants.{Accepted, Refused}
 use Rattle.error.specs.Refusals.{Carried, count, real, numberOf, valuesOf}
+use Rattle.refusal_rows.specs.declared.Row.{Row}
+use Rattle.refusal_rows.specs.Row.{rowNumber, rowValues}
 use Rattle.answer.specs.declared.Answer.{Answer}
-use Rattle.answer.specs.declared.Row.{Row}
-use Rattle.answer.specs.declared.Row.the-variants.{Alone, Count, Real, Reals}
 
 -- the whole counts among the values, in their order
 abbrev pub countsIn : List Carried → List ℕ
@@ -40,12 +40,9 @@ laidOut number values = record {
   second = getD (realsIn values) 1 noReal;
 }
 
--- the struct of a number with its values, as the code passes them on
+-- the struct of a row
 abbrev pub told : Row → Answer
-told (Alone number) = laidOut number []
-told (Count number k) = laidOut number (count k ∷ [])
-told (Real number x) = laidOut number (real x ∷ [])
-told (Reals number x y) = laidOut number (real x ∷ real y ∷ [])
+told row = laidOut (rowNumber row) (rowValues row)
 
 -- the struct of a refusal: its number and values in 01's table
 abbrev pub refusalStruct : Refusal → Answer

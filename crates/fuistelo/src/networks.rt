@@ -9,7 +9,6 @@ ghost use Rattle.graph.specs.ProductOutcome.{productOutcome};
 ghost use Rattle.graph_signal.specs.Outcome.{copyOutcome, sumOutcome};
 ghost use Rattle.answer.specs.Struct.{structOf, Tells};
 use answer::Answer;
-use answer::Row;
 use answer::checked;
 use answer::laid_out;
 use answer::refused;
@@ -20,6 +19,7 @@ use graph::from_csr_parts;
 use graph::gershgorin_bound_csr;
 use graph_signal::axpy_into_slice;
 use graph_signal::copy_from;
+use refusal_rows::Row;
 
 // Whether the parts make up a Laplacian.
 #[no_mangle]

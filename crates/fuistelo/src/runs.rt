@@ -8,7 +8,6 @@ ghost use Rattle.graph_traj_breakpoints.specs.LookupChecks.{lookupFault};
 ghost use Rattle.magnus_graph_traj_outcome.specs.RunOutcome.{forwardRun, adjointRun, Ran};
 ghost use Rattle.answer.specs.Struct.{structOf, Tells};
 use answer::Answer;
-use answer::Row;
 use answer::checked;
 use answer::laid_out;
 use answer::refused;
@@ -16,6 +15,7 @@ use graph_traj::Located;
 use graph_traj::segment_index;
 use magnus_graph_traj::evolve_state_adjoint_into;
 use magnus_graph_traj::evolve_with_traj_into;
+use refusal_rows::Row;
 
 // The segment in which t lies: where it is accepted, its one count.
 #[no_mangle]

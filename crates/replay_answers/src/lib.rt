@@ -2,6 +2,8 @@
 use error::Checked;
 use error::Refusal;
 use float::bits::has_bits;
+use refusal_rows::Row;
+use refusal_rows::row_of;
 use replay_fields::ends_with_reals;
 use replay_fields::further;
 use replay_fields::number16;
@@ -80,28 +82,10 @@ fn is_two_reals(expected: Answer, number: u64, x: f64, y: f64) -> bool {
 
 // Whether a refusal is expected: its row of the table, with its values.
 pub fn is_refusal(expected: Answer, refusal: Refusal) -> bool {
-    match refusal {
-        Refusal::RowStartCount(count) => is_count(expected, 1, count),
-        Refusal::RowStartFalls(row) => is_count(expected, 2, row),
-        Refusal::EntryCount(last) => is_count(expected, 3, last),
-        Refusal::Column(column) => is_count(expected, 4, column),
-        Refusal::Value(value) => is_real(expected, 5, value),
-        Refusal::Size(size) => is_count(expected, 6, size),
-        Refusal::Tau(tau) => is_real(expected, 7, tau),
-        Refusal::Radius(tau, bound) => is_two_reals(expected, 8, tau, bound),
-        Refusal::Bound(bound) => is_real(expected, 9, bound),
-        Refusal::Length(length) => is_count(expected, 10, length),
-        Refusal::Weight(weight) => is_real(expected, 11, weight),
-        Refusal::NoNodes(nodes) => is_count(expected, 12, nodes),
-        Refusal::SegmentCount(count) => is_count(expected, 13, count),
-        Refusal::PoolCount(count) => is_count(expected, 14, count),
-        Refusal::Breakpoint(breakpoint) => is_real(expected, 15, breakpoint),
-        Refusal::StepCount(steps) => is_count(expected, 16, steps),
-        Refusal::FirstBreakpoint(breakpoint) => is_real(expected, 17, breakpoint),
-        Refusal::LookupTime(time) => is_real(expected, 18, time),
-        Refusal::Law(law) => is_count(expected, 19, law),
-        Refusal::SampledValue(value) => is_real(expected, 20, value),
-        Refusal::Malformed(bytes) => is_count(expected, 21, bytes),
+    match row_of(refusal) {
+        Row::Count(number, count) => is_count(expected, number, count),
+        Row::Real(number, x) => is_real(expected, number, x),
+        Row::Reals(number, x, y) => is_two_reals(expected, number, x, y),
     }
 }
 

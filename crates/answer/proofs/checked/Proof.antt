@@ -10,9 +10,6 @@ use Rattle.answer.proofs.checked.Tie as tie
 enum-told : tie.Need-enum-told
 enum-told c = search needs
 
-laid-out-requires : tie.Need-laid-out-requires
-laid-out-requires c κs = search needs
-
 enum-known-answer : tie.Need-enum-known-answer
 enum-known-answer c = search needs
 
@@ -20,12 +17,10 @@ refused-requires : tie.Need-refused-requires
 refused-requires c κs = search needs
 
 returns : tie.Need-returns
-returns c = c .laid-out .ensures ∙ ap (λ (a : Checked). structOf a []) (sym (c .before .enum-told .given .1))
+returns c = ap (λ (a : Checked). structOf a []) (sym (c .enum-told .given .1))
 
 returns-2 : tie.Need-returns-2
 returns-2 c = c .refused .ensures ∙ ap (λ (a : Checked). structOf a []) (sym (c .before .before .answer .given .1))
 
 pub checked-spec : {M : Type 1} → statement M
-checked-spec =
-    tie.close
-    (tie.spec enum-told laid-out-requires enum-known-answer refused-requires returns returns-2)
+checked-spec = tie.close (tie.spec enum-told enum-known-answer refused-requires returns returns-2)

@@ -14,9 +14,6 @@ enum-known-row-2 c = search needs
 enum-known-row-3 : tie.Need-enum-known-row-3
 enum-known-row-3 c = search needs
 
-enum-known-row-4 : tie.Need-enum-known-row-4
-enum-known-row-4 c = search needs
-
 returns : tie.Need-returns
 returns c = ap told (sym (c .before .row .given .1))
 
@@ -26,9 +23,6 @@ returns-2 c = ap told (sym (c .before .row2 .given .1))
 returns-3 : tie.Need-returns-3
 returns-3 c = ap told (sym (c .before .row3 .given .1))
 
-returns-4 : tie.Need-returns-4
-returns-4 c = ap told (sym (c .before .row4 .given .1))
-
 pub laid-out-spec : {M : Type 1} → statement M
 laid-out-spec =
     tie.close
@@ -36,8 +30,6 @@ laid-out-spec =
     enum-known-row
     enum-known-row-2
     enum-known-row-3
-    enum-known-row-4
     returns
     returns-2
-    returns-3
-    returns-4)
+    returns-3)

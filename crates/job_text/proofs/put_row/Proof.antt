@@ -1,11 +1,12 @@
 -- `put_row` meets its contract: the number, and behind it each value. Assumes nothing.
 use mathlib.Core.Path.{_≡_}
-use mathlib.Core.List.{List}
+use mathlib.Core.List.{List, _∷_}
 use Prim.Native.Nat.{ℕ}
 use native.Mathlib.Omega.{arith}
-use Rattle.job_text.specs.declared.Row.{Row}
+use Rattle.error.specs.Refusals.{count}
+use Rattle.refusal_rows.specs.declared.Row.{Row}
+use Rattle.refusal_rows.specs.Row.{rowNumber, rowValues}
 use Rattle.job_text_numbers.specs.Placed.{PlacedSome}
-use Rattle.job_text.specs.Row.{listOf}
 use Rattle.job_text.specs.Text.{Spaced}
 use Rattle.job_text.proofs.Texts.{spaced-behind}
 use borrow.Author.Needs.{needs}
@@ -13,8 +14,8 @@ use Rattle.job_text.proofs.put_row.Statement.{statement}
 use Rattle.job_text.proofs.put_row.Tie as tie
 
 as-row : {row known : Row} {at : ℕ} {w w′ : List ℕ} {next : ℕ} → row ≡ known
-    → PlacedSome at (Spaced (listOf known)) w w′ next
-    → PlacedSome at (Spaced (listOf row)) w w′ next
+    → PlacedSome at (Spaced (count (rowNumber known) ∷ rowValues known)) w w′ next
+    → PlacedSome at (Spaced (count (rowNumber row) ∷ rowValues row)) w w′ next
 as-row e p = rw e p
 
 enum-known-row : tie.Need-enum-known-row

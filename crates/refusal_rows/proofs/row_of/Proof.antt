@@ -1,15 +1,15 @@
--- `row_of` meets its contract: in each arm the refusal is the one that the arm names, and its row has that refusal's number and values.
+-- `row_of` meets its contract: in each arm the refusal is the one that the arm names, and the row has that refusal's number and values.
 -- Assumes nothing.
 use mathlib.Core.Path.{_≡_, sym, ap}
 use borrow.Author.Needs.{needs}
+use Rattle.error.specs.Refusals.{numberOf, valuesOf}
 use Rattle.error.specs.declared.Refusal.{Refusal}
-use Rattle.answer.specs.Struct.{refusalStruct}
-use Rattle.answer.proofs.row_of.Statement.{statement}
-use Rattle.answer.proofs.row_of.Tie as tie
+use Rattle.refusal_rows.proofs.row_of.Statement.{statement}
+use Rattle.refusal_rows.proofs.row_of.Tie as tie
 
--- the struct of the refusal that an arm names is that of the one that came in
-row : {came named : Refusal} → came ≡ named → refusalStruct named ≡ refusalStruct came
-row e = ap refusalStruct (sym e)
+-- the number and the values of the refusal that an arm names are those of the one that came in
+row : {came named : Refusal} → came ≡ named → (numberOf named ≡ numberOf came) × (valuesOf named ≡ valuesOf came)
+row e = (ap numberOf (sym e), ap valuesOf (sym e))
 
 enum-known-refusal : tie.Need-enum-known-refusal
 enum-known-refusal c = search needs
