@@ -1,4 +1,4 @@
-/* Fuistelo: proved numerical kernels for networks of heat links. Link target/staticlib/libfuistelo.a, which `rt staticlib fuistelo` writes.
+/* Fuistelo: proved numerical kernels for networks of heat links. Link target/staticlib/libfuistelo.a, which `include/archive` writes.
  *
  * A slice is a pointer and then its length in elements. For every call:
  *   - each pointer is non-null and aligned to its element, also where the length is 0, and points to that many initialized elements;
@@ -11,7 +11,8 @@
  * A network of n nodes has a Laplacian in compressed sparse rows: row_ptr (n + 1 row starts), and col_idx and vals (a column and a value for
  * each entry). Row i has the entries from row_ptr[i] up to row_ptr[i + 1]; entries before row_ptr[0] belong to no row.
  *
- * The contracts are those of crates/fuistelo/src; docs/API.md has an example of each call. tests/declarations compares this file with them. */
+ * The contracts stand in the crates whose names begin with fuistelo_; docs/API.md has an example of each call. tests/declarations compares this
+ * file with them. */
 #ifndef FUISTELO_H
 #define FUISTELO_H
 

@@ -1,4 +1,4 @@
-//! Links libfuistelo.a, which `rt staticlib fuistelo` writes to target/staticlib of the repository. Where it stands elsewhere, the
+//! Links libfuistelo.a, which `include/archive` writes to target/staticlib of the repository. Where it stands elsewhere, the
 //! environment variable FUISTELO_LIB_DIR names its folder.
 
 use std::env;
@@ -13,7 +13,7 @@ fn main() {
     let library = folder.join("libfuistelo.a");
     if !library.is_file() {
         eprintln!(
-            "{} is not there: run `rt staticlib fuistelo` at the root of the repository, or set FUISTELO_LIB_DIR to the folder of libfuistelo.a",
+            "{} is not there: run `include/archive` at the root of the repository, or set FUISTELO_LIB_DIR to the folder of libfuistelo.a",
             library.display()
         );
         std::process::exit(1);

@@ -1,4 +1,5 @@
-// The calls on one Laplacian and on signals.
+// For programs in C and Rust: the square root, and the calls on one Laplacian and on signals. Each function makes one call and gives back its
+// answer as a struct; a slice is a pointer and a length to such a program. include/fuistelo.h declares the functions.
 ghost use mathlib.Core.Path.{_≡_};
 ghost use mathlib.Core.List.{[], _∷_};
 ghost use lib.Ieee.{binary64};
@@ -7,6 +8,7 @@ ghost use Rattle.graph_bound.specs.Gershgorin.{gershgorinBound};
 ghost use Rattle.graph_checks.specs.PatternChecks.{patternFault, csrFault};
 ghost use Rattle.graph.specs.ProductOutcome.{productOutcome};
 ghost use Rattle.graph_signal.specs.Outcome.{copyOutcome, sumOutcome};
+ghost use Rattle.square_root.specs.SquareRoot.{squareRoot};
 ghost use Rattle.answer.specs.Struct.{structOf, Tells};
 use answer::Answer;
 use answer::checked;
@@ -20,6 +22,15 @@ use graph::gershgorin_bound_csr;
 use graph_signal::axpy_into_slice;
 use graph_signal::copy_from;
 use refusal_rows::Row;
+use square_root::sqrt;
+
+// The square root of x.
+#[no_mangle]
+pub extern "C" fn fuistelo_sqrt(x: f64) -> f64
+    ensures { λ r. ⌜ r ≡ squareRoot binary64 x ⌝ }
+{
+    sqrt(x)
+}
 
 // Whether the parts make up a Laplacian.
 #[no_mangle]

@@ -1,4 +1,5 @@
-// The lookup of a segment and the runs along a trajectory.
+// For programs in C and Rust: the lookup of a segment and the runs along a trajectory. Each function makes one call and gives back its
+// answer as a struct; a slice is a pointer and a length to such a program. include/fuistelo.h declares the functions.
 ghost use mathlib.Core.Path.{_≡_};
 ghost use mathlib.Core.List.{[], _∷_};
 ghost use Rattle.error.specs.Refusals.{count};

@@ -6,8 +6,8 @@ use Rattle.error.specs.Refusals.{real}
 use Rattle.graph.specs.declared.Bounded.the-variants.{Bound, Refused}
 use Rattle.graph.specs.BoundAnswer.{checkOf}
 use Rattle.answer.proofs.Struct.{given-told, refusal-told}
-use Rattle.fuistelo.proofs.networks.fuistelo_gershgorin_bound_csr.Statement.{statement}
-use Rattle.fuistelo.proofs.networks.fuistelo_gershgorin_bound_csr.Tie as tie
+use Rattle.fuistelo_networks.proofs.fuistelo_gershgorin_bound_csr.Statement.{statement}
+use Rattle.fuistelo_networks.proofs.fuistelo_gershgorin_bound_csr.Tie as tie
 
 one-bound : {x y : Float} → Bound x ≡ Bound y → x ≡ y
 one-bound p = cc

@@ -1,4 +1,5 @@
-// The weighted adjoint run along a trajectory.
+// For programs in C and Rust: the adjoint run with node weights along a trajectory. Each function makes one call and gives back its
+// answer as a struct; a slice is a pointer and a length to such a program. include/fuistelo.h declares the functions.
 ghost use Rattle.graph_traj_parts.specs.Trajectory.{trajectory};
 ghost use Rattle.varcoef_magnus_graph_adjoint.specs.WeightedRunOutcome.{weightedAdjointRun, Ran};
 ghost use Rattle.answer.specs.Struct.{Tells};

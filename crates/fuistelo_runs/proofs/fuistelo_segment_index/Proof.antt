@@ -6,8 +6,8 @@ use Rattle.error.specs.Refusals.{count}
 use Rattle.graph_traj.specs.declared.Located.the-variants.{Segment, Refused}
 use Rattle.graph_traj.specs.LookupAnswer.{checkOf}
 use Rattle.answer.proofs.Struct.{given-told, refusal-told}
-use Rattle.fuistelo.proofs.runs.fuistelo_segment_index.Statement.{statement}
-use Rattle.fuistelo.proofs.runs.fuistelo_segment_index.Tie as tie
+use Rattle.fuistelo_runs.proofs.fuistelo_segment_index.Statement.{statement}
+use Rattle.fuistelo_runs.proofs.fuistelo_segment_index.Tie as tie
 
 one-segment : {x y : ℕ} → Segment x ≡ Segment y → x ≡ y
 one-segment p = cc
