@@ -6,8 +6,8 @@ use magnus_graph::apply_exp_omega4_kernel;
 use magnus_graph_traj::evolve_state_adjoint_into;
 use magnus_graph_traj::evolve_with_traj_into;
 use magnus6_graph::apply_exp_omega6_kernel;
-use square_root::kernel::sqrt_into_slice;
 use square_root::sqrt;
+use square_roots::kernel::sqrt_into_slice;
 use varcoef_magnus_graph::apply_exp_omega4_la_kernel;
 
 pub mod kernel;
@@ -18,7 +18,7 @@ pub extern "C" fn bench_sqrt(x: f64) -> f64 {
     sqrt(x)
 }
 
-// The square roots of src's elements, to dst, in two passes. Nothing where the lengths differ.
+// The square roots of src's elements, to dst. Nothing where the lengths differ.
 #[no_mangle]
 pub extern "C" fn bench_sqrt_into_slice(src: &[f64], dst: &mut [f64]) {
     if src.len() == dst.len() {

@@ -30,7 +30,7 @@ high-square h = mul-le-mul h h
 square-of-sum : (x b : ℕ) → (x + b) * (x + b) ≡ x * x + 2 * (x * b) + b * b
 square-of-sum x b = rw (add-mul, mul-add x x b, mul-add b x b) (omega (arith, mul-comm b x))
 
-square-in-parts : (a b : ℕ) → (67108864 * a + b) * (67108864 * a + b) ≡ 4503599627370496 * (a * a) + 67108864 * (2 * a * b) + b * b
+pub square-in-parts : (a b : ℕ) → (67108864 * a + b) * (67108864 * a + b) ≡ 4503599627370496 * (a * a) + 67108864 * (2 * a * b) + b * b
 square-in-parts a b =
     square-of-sum (67108864 * a) b
     ∙ ap (λ (x : ℕ). x + 2 * (67108864 * a * b) + b * b) (mul-mul-mul-comm 67108864 a 67108864 a)
@@ -39,10 +39,10 @@ square-in-parts a b =
     regroup : (p q r s t : ℕ) → q ≡ 67108864 * r → s ≡ 2 * r → 4503599627370496 * p + 2 * q + t ≡ 4503599627370496 * p + 67108864 * s + t
     regroup p q r s t h k = omega arith
 
-with-next : (r : ℕ) → r * (r + 1) ≡ r * r + r
+pub with-next : (r : ℕ) → r * (r + 1) ≡ r * r + r
 with-next r = mul-add r r 1 ∙ ap (λ (x : ℕ). r * r + x) (mul-one r)
 
-parts-of : (r : ℕ) → r ≡ 67108864 * (r / 67108864) + r % 67108864
+pub parts-of : (r : ℕ) → r ≡ 67108864 * (r / 67108864) + r % 67108864
 parts-of r = omega arith
 
 -- the whole part of the product, divided by 2 ^ 52

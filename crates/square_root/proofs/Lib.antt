@@ -11,5 +11,4 @@ pub mod Exponent
 pub mod FromBits
 pub mod FromDigits
 pub mod Halving
-pub mod Mapped
 pub mod Special

@@ -3,7 +3,9 @@ use mathlib.Core.Path.{_≡_, refl, ap, _∙_}
 use mathlib.Core.Logic.{_⊎_, inl, inr}
 use Prim.Native.Nat.{ℕ, zero, suc, _+_, _-_, _*_, _/_, _%_, _^_, _≤_, _<_}
 use lib.IntN.{ℤ, pos, negsuc, _+ℤ_}
-use lib.Ieee.{Format, binary64, hid}
+use mathlib.Core.Bool.{not}
+use lib.Dec.{T}
+use lib.Ieee.{Float, Format, binary64, hid, ofBits, nanBits}
 
 -- half of e, toward minus infinity (01, part 4: an odd negative exponent is halved so)
 abbrev pub halfDown : ℤ → ℤ
@@ -38,3 +40,8 @@ pub record Scaled (bits radicand : ℕ) (exponent : ℤ) : Type 0 where
   pub at : exponent +ℤ pos 1022 ≡ pos place
   pub most : place ≤ 1533
   pub value : magnitude binary64 (bits / 2 ^ 52) (bits % 2 ^ 52) * 2 ^ 1074 ≡ radicand * 2 ^ 52 * 4 ^ place
+
+-- b is no NaN's bit pattern, and unless it is 0 it is x's.
+pub record PatternOf (x : Float) (b : ℕ) : Type 0 where
+  pub no-nan : T (not (nanBits binary64 b))
+  pub value : 0 < b → ofBits binary64 b ≡ x

@@ -4,14 +4,12 @@
 ghost use mathlib.Core.Path.{_≡_};
 ghost use mathlib.Core.Bool.{Bool, true, false};
 ghost use Prim.Native.Nat.{ℕ, _+_, _-_, _*_, _^_, _≤_, _<_};
-ghost use mathlib.Core.List.{map};
-ghost use lib.ListN.{length};
 ghost use lib.Dec.{T, ltb};
 ghost use lib.IntN.{ℤ, pos, negsuc};
 ghost use lib.Signed.{leZ};
 ghost use lib.Ieee.{binary64, ofBits};
 ghost use Rattle.square_root.specs.SquareRoot.{squareRoot};
-ghost use Rattle.square_root.specs.Steps.{halfDown, RootDigits, Normalized, Scaled};
+ghost use Rattle.square_root.specs.Steps.{halfDown, RootDigits, Normalized, Scaled, PatternOf};
 
 // The weight of the exponent's field: 2^52.
 const HIDDEN: u64 = 0x10_0000_0000_0000;
@@ -161,6 +159,16 @@ pub fn root_of_bits(bits: u64, guess: u64) -> f64
     f64::from_bits(place * HIDDEN + digits)
 }
 
+// The bits of x, and 0 for a NaN, whose bits the language leaves open.
+pub fn bits_or_zero(x: f64) -> u64
+    ensures { λ b. ⌜ PatternOf x b ⌝ }
+{
+    if x != x {
+        return 0;
+    }
+    f64::to_bits(x)
+}
+
 // The square root of x from any guess at it. The guess only decides how soon the root is found.
 pub fn root_near(x: f64, guess: f64) -> f64
     ensures { λ r. ⌜ r ≡ squareRoot binary64 x ⌝ }
@@ -181,45 +189,24 @@ pub fn root_near(x: f64, guess: f64) -> f64
     if bits >= INFINITY {
         return x;
     }
-    if guess != guess {
-        return root_of_bits(bits, HIDDEN);
-    }
-    let digits = f64::to_bits(guess) % HIDDEN;
+    let digits = bits_or_zero(guess) % HIDDEN;
     root_of_bits(bits, HIDDEN + digits)
+}
+
+// A value near 1 / √x, if x is above zero and not subnormal. Nothing is promised of it.
+pub fn inverse_root(x: f64) -> f64 {
+    // From the bits within 4 parts in 100, after one step within 7 in 10,000, after two within 7 in 10,000,000.
+    let bits = bits_or_zero(x) % SIGN;
+    let seed = f64::from_bits(0x5FE3_FFFF_2000_0000 - bits / 2);
+    let first = seed * 0.703952253 * (2.38924456 - x * seed * seed);
+    first * (1.5 - 0.5 * x * first * first)
 }
 
 // A value near the square root of x, if x is above zero and not subnormal. Nothing is promised of it.
 pub fn estimate(x: f64) -> f64 {
-    if x != x {
-        return x;
-    }
-    // y is near 1 / √x: from the bits within 4 parts in 100, after one step within 7 in 10,000, after two within 7 in 10,000,000.
-    let bits = f64::to_bits(x) % SIGN;
-    let seed = f64::from_bits(0x5FE3_FFFF_2000_0000 - bits / 2);
-    let first = seed * 0.703952253 * (2.38924456 - x * seed * seed);
-    let second = first * (1.5 - 0.5 * x * first * first);
     // √x = y·x·(1 − e)^(−1/2), with 1 − e = y·x·y, by three terms of the series.
-    let root = x * second;
-    let e = 1.0 - root * second;
+    let y = inverse_root(x);
+    let root = x * y;
+    let e = 1.0 - root * y;
     root + root * (e * (0.5 + 0.375 * e))
-}
-
-// Estimates of the square roots of src's elements, to dst.
-pub fn estimate_into_slice(src: &[f64], dst: &mut [f64])
-    requires { ⌜ length (now dst) ≡ length (now src) ⌝ }
-{
-    for i in 0..src.len() {
-        dst[i] = estimate(src[i]);
-    }
-}
-
-// The square roots of src's elements, to dst. One pass estimates and a second settles: each alone is faster than both in one.
-pub fn sqrt_into_slice(src: &[f64], dst: &mut [f64])
-    requires { ⌜ length (now dst) ≡ length (now src) ⌝ }
-    ensures { λ _. ⌜ now (dst .exit) ≡ map (squareRoot binary64) (now (src .entry)) ⌝ }
-{
-    estimate_into_slice(src, dst);
-    for i in 0..src.len() {
-        dst[i] = root_near(src[i], dst[i]);
-    }
 }

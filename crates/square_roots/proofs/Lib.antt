@@ -1,1 +1,5 @@
 pub mod Roots
+pub mod SignBit
+pub mod Square
+pub mod Tested
+pub mod Verified

@@ -2,16 +2,16 @@
 use mathlib.Core.Path.{_≡_, refl, sym, ap, _∙_, subst}
 use mathlib.Core.Bool.{Bool, cond}
 use mathlib.Core.List.{List, map}
-use Prim.Native.Nat.{ℕ, _+_, _≤_, _<_}
+use Prim.Native.Nat.{ℕ, _+_, _-_, _≤_, _<_}
 use native.Mathlib.Omega.{arith}
 use lib.Dec.{ltb}
-use lib.ListN.{length, getD, set, length-map, List·getD-map}
+use lib.ListN.{length, getD, set, take, drop, length-map, List·getD-map}
 use lib.Ieee.{Float, binary64, nan}
 use borrow.Author.Tests.{lt-ltb, le-ltb}
 use Rattle.arithmetic.specs.Vector.{tabulate}
 use Rattle.arithmetic.proofs.Tabulate.{length-tabulate, tabulate-same, tabulate-elements}
 use Rattle.scratch.specs.Parts.{part, put, Apart}
-use Rattle.scratch.proofs.Parts.{length-part, part-of-put-apart, put-of-put}
+use Rattle.scratch.proofs.Parts.{length-part, part-of-put, part-of-put-apart, put-of-put}
 use Rattle.scratch.proofs.Writing.{Written, written-none, written-next, written-all}
 use Rattle.square_root.specs.SquareRoot.{squareRoot}
 use Rattle.square_roots.specs.Overwritten.{Overwritten}
@@ -60,12 +60,32 @@ module _ {at n : ℕ} {w₀ : List Float} {i : ℕ} {w : List Float} where
 
 -- ---- the roots over what was there
 
--- the vector at `target` is written twice: what the first time wrote is gone, and it left the one at `source` as it was
+-- the vector at `target` was written, and the one at `source` is as it was
 module _ {n target : ℕ} {w w₁ : List Float} (source : ℕ) (first : Overwritten n target w w₁) where
   pub source-kept : Apart n source target → part source n w₁ ≡ part source n w
   source-kept apart =
       ap (part source n) (first .written) ∙ part-of-put-apart n source target (first .vector) w (omega (arith, first .size)) apart
 
+  -- what was written is the roots
+  pub roots-there : source + n ≤ length w
+      → target + n ≤ length w
+      → Apart n source target
+      → take (target + n - target) (drop target w₁) ≡ map (squareRoot binary64) (take (source + n - source) (drop source w₁))
+      → w₁ ≡ put target (map (squareRoot binary64) (part source n w)) w
+  roots-there room space apart roots =
+      first .written
+      ∙ ap (λ v. put target v w)
+      (sym (part-of-put target n (first .vector) w (first .size) space)
+      ∙ ap (part target n) (sym (first .written))
+      ∙ ap (λ k. take k (drop target w₁)) (span target n)
+      ∙ roots
+      ∙ ap (λ k. map (squareRoot binary64) (take k (drop source w₁))) (sym (span source n))
+      ∙ ap (map (squareRoot binary64)) (source-kept apart))
+    where
+      span : (a n : ℕ) → n ≡ a + n - a
+      span a n = omega arith
+
+  -- the roots are written over it
   pub roots-over : source + n ≤ length w
       → Apart n source target
       → {w₂ : List Float} → w₂ ≡ put target (map (squareRoot binary64) (part source n w₁)) w₁

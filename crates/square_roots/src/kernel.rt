@@ -1,15 +1,77 @@
-// The square roots of vectors: one pass estimates them all, promising nothing, and a second settles each. Either alone is faster than both
-// in one.
+// The square roots of vectors. One pass estimates them all, promising nothing, and a second tests whether each estimate is the root. Both
+// take several values at once. Only where one is not, which is rare, a third pass finds each root for itself.
 ghost use mathlib.Core.Path.{_≡_};
+ghost use mathlib.Core.Bool.{true};
 ghost use mathlib.Core.List.{map};
-ghost use Prim.Native.Nat.{_+_, _≤_};
+ghost use Prim.Native.Nat.{_+_, _^_, _≤_, _<_};
 ghost use lib.ListN.{length};
 ghost use lib.Ieee.{binary64};
 ghost use Rattle.scratch.specs.Parts.{part, put, Apart};
 ghost use Rattle.square_root.specs.SquareRoot.{squareRoot};
+ghost use Rattle.square_root.specs.Steps.{RootDigits};
 ghost use Rattle.square_roots.specs.Overwritten.{Overwritten};
-use square_root::kernel::estimate;
+use square_root::kernel::bits_or_zero;
+use square_root::kernel::inverse_root;
 use square_root::kernel::root_near;
+
+// The weight of the exponent's field: 2^52.
+const HIDDEN: u64 = 0x10_0000_0000_0000;
+// 2^26, at which a root's 53 digits are split.
+const SPLIT: u64 = 0x400_0000;
+// 2^27, the weight of the last of the 26 leading digits.
+const LAST: u64 = 0x800_0000;
+// The sign bit: 2^63.
+const SIGN: u64 = 0x8000_0000_0000_0000;
+
+// A value near the square root of x, if x is above zero and not subnormal: but for a few of a million, the square root itself. Nothing is
+// promised of it.
+pub fn estimate(x: f64) -> f64 {
+    // √x = y·x·(1 − e)^(−1/2), with 1 − e = y·x·y, by two terms of the series: within 1 part in 1,000,000,000,000.
+    let y = inverse_root(x);
+    let root = x * y;
+    let e = 1.0 - root * y;
+    let near = root + root * (0.5 * e);
+    // The leading 26 digits of that have a square of no more than 52 digits, so that x − leading² is not rounded. √x is
+    // leading + (x − leading²) / (leading + √x), and the quotient is so small that its errors seldom reach the last digit of the sum.
+    let digits = bits_or_zero(near);
+    let leading = f64::from_bits(digits - digits % LAST);
+    leading + (x - leading * leading) / (leading + near)
+}
+
+// Whether r is the whole number nearest to the root of radicand·2^52, said by the sign bit of the result: of many such words joined by `&`
+// it is set where it is set in all, and a vector of them is joined at once. r·r = high·2^52 + low, in parts of 26 digits.
+pub fn digits_test(radicand: u64, r: u64) -> u64
+    requires { ⌜ radicand < 2 ^ 54 ⌝ }
+    requires { ⌜ (2 ^ 52 ≤ r) × (r < 2 ^ 53) ⌝ }
+    ensures { λ t. ⌜ (2 ^ 63 ≤ t → RootDigits radicand r) ⌝ }
+{
+    let a = r / SPLIT;
+    let b = r % SPLIT;
+    let middle = 2 * (a * b);
+    let low = middle % SPLIT * SPLIT + b * b;
+    let high = a * a + middle / SPLIT;
+    let upper = SIGN + (high + (low + r) / HIDDEN) - radicand;
+    let lower = SIGN + (radicand + 1) - (high + (low + (2 * HIDDEN - r)) / HIDDEN);
+    upper & lower
+}
+
+// Whether y is the square root of x, said by the sign bit of the result. It is clear too for an x that is not above zero, is subnormal or
+// infinite. Every value takes the same way, so that several are tested at once.
+pub fn root_test(x: f64, y: f64) -> u64
+    ensures { λ t. ⌜ (2 ^ 63 ≤ t → y ≡ squareRoot binary64 x) ⌝ }
+{
+    let bits = bits_or_zero(x);
+    let field = bits / HIDDEN;
+    let significand = HIDDEN + bits % HIDDEN;
+    // An odd exponent leaves a factor 2 for the digits. The exponent is the field less 1023.
+    let odd = (field + 1) % 2;
+    let radicand = significand + (significand & (SIGN - odd));
+    let root = bits_or_zero(y);
+    let r = HIDDEN + root % HIDDEN;
+    // Half of the rest is y's exponent.
+    let half = SIGN - ((root / HIDDEN + odd) ^ (field / 2 + 512));
+    digits_test(radicand, r) & (SIGN + field - 1) & (SIGN + 2046 - field) & half
+}
 
 // Estimates of the square roots of src's elements, to dst. Nothing is promised of them.
 pub fn estimate_into_slice(src: &[f64], dst: &mut [f64])
@@ -30,12 +92,27 @@ pub fn settle_into_slice(src: &[f64], dst: &mut [f64])
     }
 }
 
+// Whether `roots` are the square roots of src's elements, all of them. A yes is sure; a no may come from a value that the test leaves out.
+pub fn all_roots(src: &[f64], roots: &[f64]) -> bool
+    requires { ⌜ length (now roots) ≡ length (now src) ⌝ }
+    ensures { λ b. ⌜ (b ≡ true → now (roots .entry) ≡ map (squareRoot binary64) (now (src .entry))) ⌝ }
+{
+    let mut passed = SIGN;
+    for i in 0..src.len() {
+        passed = passed & root_test(src[i], roots[i]);
+    }
+    passed >= SIGN
+}
+
 // The square roots of src's elements, to dst.
 pub fn sqrt_into_slice(src: &[f64], dst: &mut [f64])
     requires { ⌜ length (now dst) ≡ length (now src) ⌝ }
     ensures { λ _. ⌜ now (dst .exit) ≡ map (squareRoot binary64) (now (src .entry)) ⌝ }
 {
     estimate_into_slice(src, dst);
+    if all_roots(src, dst) {
+        return;
+    }
     settle_into_slice(src, dst);
 }
 
@@ -67,5 +144,10 @@ pub fn roots_in(work: &mut [f64], count: usize, source: usize, target: usize)
         ⌜ now (work .exit) ≡ put target (map (squareRoot binary64) (part source count w)) w ⌝ }
 {
     estimate_within(work, count, source, target);
+    let source_end = source + count;
+    let target_end = target + count;
+    if all_roots(&work[source..source_end], &work[target..target_end]) {
+        return;
+    }
     settle_within(work, count, source, target);
 }

@@ -13,7 +13,7 @@ ghost use Rattle.graph_rows.specs.RowProduct.{rowProduct64};
 ghost use Rattle.varcoef_magnus_graph_products.specs.WeightedProduct.{withProduct};
 use graph_rows::kernel::row_sum;
 use scratch_products::kernel::multiply;
-use square_root::kernel::sqrt_into_slice;
+use square_roots::kernel::sqrt_into_slice;
 
 // The vector at `at` becomes the square roots of the weights.
 pub fn load_roots(weights: &[f64], work: &mut [f64], at: usize)

@@ -61,23 +61,17 @@ returns-5 c =
     below : {b : ℕ} → (b ≡ 0x8000_0000_0000_0000 → ⊥) → b ≤ 0x8000_0000_0000_0000 → b < 0x8000_0000_0000_0000
     below n l = omega arith
 
+bits-or-zero-requires : tie.Need-bits-or-zero-requires
+bits-or-zero-requires c κs = search needs
+
+add-root-of-bits : tie.Need-add-root-of-bits
+add-root-of-bits c = search needs
+
 root-of-bits-requires : tie.Need-root-of-bits-requires
 root-of-bits-requires c κs = search needs
 
 returns-6 : tie.Need-returns-6
 returns-6 c = let s = c .before .before .before .before .before .before .before in root-of-own-bits (s .args .x) (held s) refl (c .root-of-bits .ensures)
-
-float-to-bits-digits : tie.Need-float-to-bits-digits
-float-to-bits-digits c = equal-to-itself _ (c .if6 .left)
-
-add-root-of-bits : tie.Need-add-root-of-bits
-add-root-of-bits c = search needs
-
-root-of-bits-requires-2 : tie.Need-root-of-bits-requires-2
-root-of-bits-requires-2 c κs = search needs
-
-returns-7 : tie.Need-returns-7
-returns-7 c = let s = c .before .before .before .before .before .before .before in root-of-own-bits (s .args .x) (held s) refl (c .root-of-bits2 .ensures)
 
 pub root-near-spec : {M : Type 1} → statement M
 root-near-spec =
@@ -89,9 +83,7 @@ root-near-spec =
     returns-3
     returns-4
     returns-5
-    root-of-bits-requires
-    returns-6
-    float-to-bits-digits
+    bits-or-zero-requires
     add-root-of-bits
-    root-of-bits-requires-2
-    returns-7)
+    root-of-bits-requires
+    returns-6)
