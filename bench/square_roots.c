@@ -8,7 +8,8 @@
 #include <string.h>
 #include <time.h>
 
-double bench_sqrt(double x);
+#include "fuistelo.h"
+
 void bench_sqrt_into_slice(const double *src, size_t src_len, double *dst, size_t dst_len);
 
 enum { VALUES = 4096, PASSES = 50, RUNS = 31 };
@@ -22,7 +23,7 @@ static void hardware(const double *src, size_t src_len, double *dst, size_t dst_
 
 static void called(const double *src, size_t src_len, double *dst, size_t dst_len) {
     (void)dst_len;
-    for (size_t i = 0; i < src_len; i++) dst[i] = bench_sqrt(src[i]);
+    for (size_t i = 0; i < src_len; i++) dst[i] = fuistelo_sqrt(src[i]);
 }
 
 static double now(void) {

@@ -13,6 +13,7 @@ mod timing;
 
 use std::hint::black_box;
 
+use fuistelo::Refusal;
 use networks::{Network, Random, Shape};
 use semiflow::graph::{Laplacian, LaplacianKind};
 
@@ -23,9 +24,9 @@ fn rust_product(laplacian: &Laplacian<f64>, src: &[f64], dst: &mut [f64]) {
 }
 
 /// Stops where a call of ours refused, or gave other bits than the Rust.
-fn compare(what: &str, number: u32, ours: &[f64], rust: &[f64]) {
-    if number != 0 {
-        eprintln!("bench: {what} refuses with {number} what the Rust accepts");
+fn compare(what: &str, answer: Result<(), Refusal>, ours: &[f64], rust: &[f64]) {
+    if let Err(refusal) = answer {
+        eprintln!("bench: {what} refuses what the Rust accepts: {refusal}");
         std::process::exit(1);
     }
     if let Some(i) = (0..rust.len()).find(|&i| ours[i].to_bits() != rust[i].to_bits()) {
@@ -49,45 +50,27 @@ fn laplacian_of(network: &Network) -> Laplacian<f64> {
 
 /// Nanoseconds of the Rust's product, our product, our whole call and our pattern check.
 fn measure(network: &Network) -> [f64; 4] {
-    let Network {
-        n,
-        row_ptr,
-        col_idx,
-        vals,
-        signal,
-    } = network;
+    let Network { n, signal, .. } = network;
     let laplacian = laplacian_of(network);
     let (mut rust, mut alone, mut whole) = (vec![0.0; *n], vec![1.0; *n], vec![1.0; *n]);
 
     rust_product(&laplacian, signal, &mut rust);
-    compare(
-        "from_csr_parts",
-        archive::from_csr_parts(*n, row_ptr, col_idx, vals),
-        &[],
-        &[],
-    );
+    compare("from_csr_parts", archive::from_csr_parts(network), &[], &[]);
     // SAFETY: the pattern check accepted the network, and the signals have n elements.
-    unsafe { archive::product(row_ptr, col_idx, vals, signal, &mut alone) };
-    compare("product", 0, &alone, &rust);
-    let number = archive::apply_into_slice(*n, row_ptr, col_idx, vals, signal, &mut whole);
-    compare("apply_into_slice", number, &whole, &rust);
+    unsafe { archive::product(network, signal, &mut alone) };
+    compare("product", Ok(()), &alone, &rust);
+    let answer = archive::apply_into_slice(network, signal, &mut whole);
+    compare("apply_into_slice", answer, &whole, &rust);
 
     timing::medians(&mut [
         &mut || rust_product(black_box(&laplacian), black_box(signal), black_box(&mut rust)),
         // SAFETY: as above.
-        &mut || unsafe { archive::product(row_ptr, col_idx, vals, black_box(signal), black_box(&mut alone)) },
+        &mut || unsafe { archive::product(network, black_box(signal), black_box(&mut alone)) },
         &mut || {
-            black_box(archive::apply_into_slice(
-                *n,
-                row_ptr,
-                col_idx,
-                vals,
-                black_box(signal),
-                black_box(&mut whole),
-            ));
+            let _ = black_box(archive::apply_into_slice(black_box(network), black_box(signal), black_box(&mut whole)));
         },
         &mut || {
-            black_box(archive::from_csr_parts(*n, row_ptr, col_idx, black_box(vals)));
+            let _ = black_box(archive::from_csr_parts(black_box(network)));
         },
     ])
 }

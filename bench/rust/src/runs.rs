@@ -117,11 +117,11 @@ pub fn measure(law: u8, first: &Network, second: &Network) -> [f64; 4] {
     let run = run_of(law, first, second);
 
     rust_forward(&magnus, &traj, &src, &mut rust_dst, &mut pool);
-    let number = run.evolve_with_traj_into(&mut dst, &mut work);
-    compare("evolve_with_traj_into", number, &dst, rust_dst.values());
+    let answer = run.evolve_with_traj_into(&mut dst, &mut work);
+    compare("evolve_with_traj_into", answer, &dst, rust_dst.values());
     rust_adjoint(&magnus, &src, &mut rust_back, &mut pool);
-    let number = run.evolve_state_adjoint_into(&mut back, &mut work);
-    compare("evolve_state_adjoint_into", number, &back, rust_back.values());
+    let answer = run.evolve_state_adjoint_into(&mut back, &mut work);
+    compare("evolve_state_adjoint_into", answer, &back, rust_back.values());
 
     let mut forward_pool = ScratchPool::new();
     let mut adjoint_work = work.clone();
@@ -136,11 +136,11 @@ pub fn measure(law: u8, first: &Network, second: &Network) -> [f64; 4] {
             );
         },
         &mut || {
-            black_box(black_box(&run).evolve_with_traj_into(black_box(&mut dst), &mut work));
+            let _ = black_box(black_box(&run).evolve_with_traj_into(black_box(&mut dst), &mut work));
         },
         &mut || rust_adjoint(black_box(&magnus), black_box(&src), &mut rust_back, &mut pool),
         &mut || {
-            black_box(black_box(&run).evolve_state_adjoint_into(black_box(&mut back), &mut adjoint_work));
+            let _ = black_box(black_box(&run).evolve_state_adjoint_into(black_box(&mut back), &mut adjoint_work));
         },
     ])
 }
@@ -158,13 +158,13 @@ pub fn measure_weighted(law: u8, first: &Network, second: &Network, weights: &[V
     let lent = [&weights[0][..], &weights[1][..]];
 
     rust_weighted_adjoint(&magnus, &src, &mut rust_dst, &mut pool);
-    let number = run.evolve_state_adjoint_la_into(lent, A_SUP_MAX, &mut dst, &mut work);
-    compare("evolve_state_adjoint_into with weights", number, &dst, rust_dst.values());
+    let answer = run.evolve_state_adjoint_la_into(lent, A_SUP_MAX, &mut dst, &mut work);
+    compare("evolve_state_adjoint_into with weights", answer, &dst, rust_dst.values());
 
     timing::minima(&mut [
         &mut || rust_weighted_adjoint(black_box(&magnus), black_box(&src), &mut rust_dst, &mut pool),
         &mut || {
-            black_box(black_box(&run).evolve_state_adjoint_la_into(lent, A_SUP_MAX, black_box(&mut dst), &mut work));
+            let _ = black_box(black_box(&run).evolve_state_adjoint_la_into(lent, A_SUP_MAX, black_box(&mut dst), &mut work));
         },
     ])
 }

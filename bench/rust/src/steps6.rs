@@ -59,14 +59,14 @@ pub fn measure(samples: [&Network; 3]) -> [f64; 2] {
     let mut pool = ScratchPool::new();
 
     rust_step(&rust, &src, &mut rust_dst, &mut pool);
-    let number = archive::apply_exp_omega6_kernel(samples, TAU, RHO_BAR_MAX, signal, &mut dst, &mut work);
-    compare("apply_exp_omega6_kernel", number, &dst, rust_dst.values());
+    let answer = archive::apply_exp_omega6_kernel(samples, TAU, RHO_BAR_MAX, signal, &mut dst, &mut work);
+    compare("apply_exp_omega6_kernel", answer, &dst, rust_dst.values());
 
     timing::minima(&mut [
         &mut || rust_step(black_box(&rust), black_box(&src), black_box(&mut rust_dst), &mut pool),
         &mut || {
             let samples = black_box(samples);
-            black_box(archive::apply_exp_omega6_kernel(
+            let _ = black_box(archive::apply_exp_omega6_kernel(
                 samples,
                 TAU,
                 RHO_BAR_MAX,

@@ -32,14 +32,14 @@ pub extern "C" fn fuistelo_segment_index(segments: usize, breakpoints: &[f64], t
 
 // The forward run.
 #[no_mangle]
-pub extern "C" fn fuistelo_evolve_with_traj_into(
+pub extern "C" fn fuistelo_evolve_with_traj_into<'a>(
     n: usize,
     row_ptr: &[usize],
     col_idx: &[u32],
     segments: usize,
     breakpoints: &[f64],
-    starts: &[f64],
-    ends: &[f64],
+    starts: &'a [f64],
+    ends: &'a [f64],
     laws: &[u8],
     steps: usize,
     rho_bar_max: f64,
@@ -73,14 +73,14 @@ pub extern "C" fn fuistelo_evolve_with_traj_into(
 
 // The adjoint run.
 #[no_mangle]
-pub extern "C" fn fuistelo_evolve_state_adjoint_into(
+pub extern "C" fn fuistelo_evolve_state_adjoint_into<'a>(
     n: usize,
     row_ptr: &[usize],
     col_idx: &[u32],
     segments: usize,
     breakpoints: &[f64],
-    starts: &[f64],
-    ends: &[f64],
+    starts: &'a [f64],
+    ends: &'a [f64],
     laws: &[u8],
     tau: f64,
     steps: usize,

@@ -2,7 +2,7 @@
 use mathlib.Core.Path.{_≡_, refl}
 use mathlib.Core.Bool.{Bool, true, false, cond}
 use mathlib.Core.List.{List}
-use Prim.Native.Nat.{ℕ, suc, _+_, _-_, _*_, _≤_, _<_}
+use Prim.Native.Nat.{ℕ, zero, suc, _+_, _-_, _*_, _≤_, _<_}
 use native.Mathlib.Nat.{suc-mul, mul-le-mul-right}
 use native.Mathlib.Omega.{arith}
 use lib.Dec.{eqb}
@@ -10,9 +10,9 @@ use lib.ListN.{length, take, drop, length-take, length-drop}
 use lib.Ieee.{Float}
 use borrow.Author.Tests.{eq-eqb, ne-eqb}
 use Rattle.scratch.specs.Parts.{part}
-use Rattle.graph_traj_segment.specs.Laws.{lawValues, byLaw, valuesAt, lawList}
+use Rattle.graph_traj_segment.specs.Laws.{byLaw, valuesAt, lawList}
 
-module _ (law k m : ℕ) (starts ends sampled : List Float) where
+module _ (law k m : ℕ) (starts ends : List Float) where
   abbrev PartOf : List Float → List Float
   PartOf pool = take (k * m + m - k * m) (drop (k * m) pool)
 
@@ -20,30 +20,22 @@ module _ (law k m : ℕ) (starts ends sampled : List Float) where
   part-of : (pool : List Float) → PartOf pool ≡ part (k * m) m pool
   part-of pool = let e : k * m + m - k * m ≡ m = omega arith in rw e refl
 
-  pub law-start : law ≡ 0 → PartOf starts ≡ lawList law k m starts ends sampled
-  unfolding lawList byLaw
+  pub law-start : law ≡ 0 → PartOf starts ≡ lawList law k m starts ends
+  unfolding lawList
   law-start z = let first : eqb law 0 ≡ true = eq-eqb law 0 z in rw first (part-of starts)
 
-  pub law-end : (law ≡ 0 → ⊥) → law ≡ 1 → PartOf ends ≡ lawList law k m starts ends sampled
-  unfolding lawList byLaw
-  law-end n o =
-      let first : eqb law 0 ≡ false = ne-eqb law 0 n in
-      let second : eqb law 1 ≡ true = eq-eqb law 1 o in
-      rw (first, second) (part-of ends)
+  pub law-end : (law ≡ 0 → ⊥) → PartOf ends ≡ lawList law k m starts ends
+  unfolding lawList
+  law-end n = let first : eqb law 0 ≡ false = ne-eqb law 0 n in rw first (part-of ends)
 
-  pub law-sampled : (law ≡ 0 → ⊥) → (law ≡ 1 → ⊥) → sampled ≡ lawList law k m starts ends sampled
-  unfolding lawList byLaw
-  law-sampled n o =
-      let first : eqb law 0 ≡ false = ne-eqb law 0 n in
-      let second : eqb law 1 ≡ false = ne-eqb law 1 o in
-      rw (first, second) refl
-
--- what law 2 samples of segment k makes its law's list the segment's values
+-- the values of a segment of law 0 or 1 are its law's list, at any time
 pub law-values : (law k m : ℕ) (f : Float) (starts ends : List Float)
-    → lawList law k m starts ends (lawValues m f (part (k * m) m starts) (part (k * m) m ends))
-    ≡ valuesAt law m f (part (k * m) m starts) (part (k * m) m ends)
-unfolding lawList valuesAt
-law-values law k m f starts ends = refl
+    → law ≤ 1
+    → valuesAt law m f (part (k * m) m starts) (part (k * m) m ends) ≡ lawList law k m starts ends
+unfolding lawList valuesAt byLaw
+law-values zero k m f starts ends h = refl
+law-values (suc zero) k m f starts ends h = refl
+law-values (suc (suc law)) k m f starts ends h = absurd (omega arith)
 
 -- segment k's list lies within a pool of so many segments
 pub list-within : (k segments m : ℕ) → k < segments → k * m + m ≤ segments * m
@@ -57,12 +49,10 @@ length-one true x y m p q = p
 length-one false x y m p q = q
 
 -- a law's list has m values
-pub length-law : (law k m : ℕ) (starts ends sampled : List Float)
+pub length-law : (law k m : ℕ) (starts ends : List Float)
     → k * m + m ≤ length starts
     → k * m + m ≤ length ends
-    → length sampled ≡ m
-    → length (lawList law k m starts ends sampled) ≡ m
-unfolding lawList byLaw
-length-law law k m starts ends sampled p q r =
-    length-one (eqb law 0) _ _ m (simp (length-take, length-drop) (omega arith))
-    (length-one (eqb law 1) _ _ m (simp (length-take, length-drop) (omega arith)) r)
+    → length (lawList law k m starts ends) ≡ m
+unfolding lawList
+length-law law k m starts ends p q =
+    length-one (eqb law 0) _ _ m (simp (length-take, length-drop) (omega arith)) (simp (length-take, length-drop) (omega arith))

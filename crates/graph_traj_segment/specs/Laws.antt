@@ -32,6 +32,6 @@ byLaw law start end sampled = cond (eqb law 0) start (cond (eqb law 1) end sampl
 unfoldable pub valuesAt : ℕ → ℕ → Float → List Float → List Float → List Float
 valuesAt law m f start end = byLaw law start end (lawValues m f start end)
 
--- the list that segment k's law names, in pools of lists of m values each
-unfoldable pub lawList : ℕ → ℕ → ℕ → List Float → List Float → List Float → List Float
-lawList law k m starts ends sampled = byLaw law (part (k *ℕ m) m starts) (part (k *ℕ m) m ends) sampled
+-- the list that segment k's law names, 0 or 1, in pools of lists of m values each: a part of the start pool or of the end pool
+unfoldable pub lawList : ℕ → ℕ → ℕ → List Float → List Float → List Float
+lawList law k m starts ends = cond (eqb law 0) (part (k *ℕ m) m starts) (part (k *ℕ m) m ends)

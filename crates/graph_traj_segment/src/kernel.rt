@@ -101,26 +101,15 @@ pub fn law_value(fraction: f64, s: f64, e: f64) -> f64
     s + fraction * (e - s)
 }
 
-// The list of m values that segment k's law names: the caller's own start list for 0 and end list for 1, uncopied, and for 2 the list
-// that was sampled.
-pub fn law_list<'a>(
-    law: u8,
-    starts: &'a [f64],
-    ends: &'a [f64],
-    sampled: &'a [f64],
-    k: usize,
-    m: usize,
-) -> &'a [f64]
+// The list of m values that segment k's law names, 0 or 1: the caller's own start list or end list, uncopied.
+pub fn law_list<'a>(law: u8, starts: &'a [f64], ends: &'a [f64], k: usize, m: usize) -> &'a [f64]
     requires { ⌜ (k ≤ 65535) × (m ≤ 65535) × (k * m + m ≤ length (now starts)) × (k * m + m ≤ length (now ends)) ⌝ }
-    ensures { λ r. ⌜ now r ≡ lawList law k m (now (starts .entry)) (now (ends .entry)) (now (sampled .entry)) ⌝ }
+    ensures { λ r. ⌜ now r ≡ lawList law k m (now (starts .entry)) (now (ends .entry)) ⌝ }
 {
     let from = k * m;
     let to = from + m;
     if law == 0 {
         return &starts[from..to];
     }
-    if law == 1 {
-        return &ends[from..to];
-    }
-    sampled
+    &ends[from..to]
 }

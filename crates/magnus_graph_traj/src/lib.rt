@@ -13,14 +13,14 @@ use scratch::kernel::store;
 // The forward run: dst becomes src after `steps` steps in each segment. Refused before the first step by rows 6, 1 to 4, 13, 14, 15, 19,
 // 5, 9, 16, 17, 10 for src, dst and work, whose need is 7n + 2m, and 8 by segment: every slice is as it was. Refused by row 20 in a step,
 // dst is as it was. Once there was a step, the first 7n + 2m elements of work become +0.
-pub fn evolve_with_traj_into(
+pub fn evolve_with_traj_into<'a>(
     n: usize,
     row_ptr: &[usize],
     col_idx: &[u32],
     segments: usize,
     breakpoints: &[f64],
-    starts: &[f64],
-    ends: &[f64],
+    starts: &'a [f64],
+    ends: &'a [f64],
     laws: &[u8],
     steps: usize,
     rho_bar_max: f64,
@@ -80,14 +80,14 @@ pub fn evolve_with_traj_into(
 // commutator's sign reversed. Refused before the first step by rows 6, 1 to 4, 13, 14, 15, 17, 19, 5, 9, 16, 7, 8 and 10; what a refusal
 // and the steps leave is as in the forward run. No steps copy src and leave work as it was; they do not meet rows 16, 7 and 8, nor row 10
 // for work.
-pub fn evolve_state_adjoint_into(
+pub fn evolve_state_adjoint_into<'a>(
     n: usize,
     row_ptr: &[usize],
     col_idx: &[u32],
     segments: usize,
     breakpoints: &[f64],
-    starts: &[f64],
-    ends: &[f64],
+    starts: &'a [f64],
+    ends: &'a [f64],
     laws: &[u8],
     tau: f64,
     steps: usize,

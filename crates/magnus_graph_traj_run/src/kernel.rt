@@ -13,14 +13,14 @@ use magnus_graph_traj_step::kernel::run_step;
 
 // One step in segment k, which starts at t_start (`apply_magnus_k4_with_fn` of the Rust): the held signal becomes its image. sign is 1
 // forward and -1 adjoint.
-pub fn step_at(
+pub fn step_at<'a>(
     n: usize,
     row_ptr: &[usize],
     col_idx: &[u32],
     segments: usize,
     breakpoints: &[f64],
-    starts: &[f64],
-    ends: &[f64],
+    starts: &'a [f64],
+    ends: &'a [f64],
     laws: &[u8],
     k: usize,
     segment: Segment,
@@ -55,14 +55,14 @@ pub fn step_at(
 }
 
 // The steps of segment i of a forward run (`run_segment_steps` of the Rust).
-pub fn run_segment_steps(
+pub fn run_segment_steps<'a>(
     n: usize,
     row_ptr: &[usize],
     col_idx: &[u32],
     segments: usize,
     breakpoints: &[f64],
-    starts: &[f64],
-    ends: &[f64],
+    starts: &'a [f64],
+    ends: &'a [f64],
     laws: &[u8],
     steps: usize,
     i: usize,
@@ -104,14 +104,14 @@ pub fn run_segment_steps(
 }
 
 // The steps of a forward run, segment by segment (`run_all_segments` of the Rust).
-pub fn run_all_segments(
+pub fn run_all_segments<'a>(
     n: usize,
     row_ptr: &[usize],
     col_idx: &[u32],
     segments: usize,
     breakpoints: &[f64],
-    starts: &[f64],
-    ends: &[f64],
+    starts: &'a [f64],
+    ends: &'a [f64],
     laws: &[u8],
     steps: usize,
     work: &mut [f64],
@@ -147,14 +147,14 @@ pub fn run_all_segments(
 }
 
 // The steps of an adjoint run, each of length tau, in the one segment: the last first.
-pub fn run_adjoint_steps(
+pub fn run_adjoint_steps<'a>(
     n: usize,
     row_ptr: &[usize],
     col_idx: &[u32],
     segments: usize,
     breakpoints: &[f64],
-    starts: &[f64],
-    ends: &[f64],
+    starts: &'a [f64],
+    ends: &'a [f64],
     laws: &[u8],
     tau: f64,
     steps: usize,

@@ -1,7 +1,7 @@
 -- One step of a run in its work slice, from the calls of its kernel, each of which tells what it wrote: under law 2 two samples, their
 -- checks and the Taylor sum; under laws 0 and 1 the Taylor sum with the one list. Assumes nothing.
 use mathlib.Core.Path.{_≡_, refl, sym, ap, _∙_, subst}
-use mathlib.Core.Bool.{true, false, not}
+use mathlib.Core.Bool.{Bool, true, false, not, cond}
 use mathlib.Core.List.{List}
 use Prim.Native.Nat.{ℕ, _+_, _-_, _*_, _≤_, _<_}
 use native.Mathlib.Omega.{arith}
@@ -9,7 +9,6 @@ use lib.Dec.{eqb}
 use lib.ListN.{length, getD, take, drop}
 use lib.Ieee.{Float, binary64, nan}
 use lib.Ieee.Scale.{finite}
-use borrow.Author.Tests.{eq-eqb, ne-eqb}
 use Rattle.rounding.specs.StepLength.{minusHalf}
 use Rattle.arithmetic.specs.Arithmetic.{Arithmetic, ieee}
 use Rattle.arithmetic.specs.Product.{plusScaled}
@@ -31,7 +30,8 @@ use Rattle.magnus_graph_helpers.specs.Terms.{omega4Sum, TermAdded, TermsAdded}
 use Rattle.magnus_graph_checks.proofs.StepSound.{refused-not-accepted}
 use Rattle.magnus_graph.specs.Omega4.{sqrt3Over12}
 use Rattle.magnus_graph_step.specs.Omega4.{expOmega4}
-use Rattle.graph_traj_segment.specs.Laws.{lawValues, byLaw, valuesAt}
+use Rattle.graph_traj_segment.specs.Laws.{lawValues, byLaw, valuesAt, lawList}
+use Rattle.graph_traj_segment.proofs.Laws.{law-values}
 use Rattle.graph_traj_samples.specs.Sampled.{sampledFault, lawPairs}
 use Rattle.graph_traj_samples.proofs.Sampled.{first-values, second-values}
 use Rattle.magnus_graph_traj_step.specs.RunStepTaken.{RunStepTaken}
@@ -198,19 +198,31 @@ module _ (n : ℕ) (rowStarts cols : List ℕ) (law : ℕ) (starts ends : List F
       ap (λ x. not (finite x)) (getD-part (k * length cols) (length cols) pool j nan l)
       ∙ ap not (all-finite (k * length cols + j) (omega arith)))
 
-  -- both samples are segment k's list in one pool, and the Taylor sum was formed with it
-  pub constant-taken : (pool : List Float)
-      → ((f : Float) → valuesAt law (length cols) f (listIn starts) (listIn ends) ≡ listIn pool)
-      → k * length cols + length cols ≤ length pool
-      → ((i : ℕ) → i < length pool → finite (getD pool i nan) ≡ true)
+  -- nor of one of two lists of which it refuses nothing
+  one-passed : (b : Bool) (x y : List Float) → Accepted ≡ sampledFault x → Accepted ≡ sampledFault y → Accepted ≡ sampledFault (cond b x y)
+  one-passed true x y p q = p
+  one-passed false x y p q = q
+
+  -- both samples are the list that the law names, and the Taylor sum was formed with it
+  pub constant-taken : law ≤ 1
+      → k * length cols + length cols ≤ length starts
+      → k * length cols + length cols ≤ length ends
+      → ((i : ℕ) → i < length starts → finite (getD starts i nan) ≡ true)
+      → ((i : ℕ) → i < length ends → finite (getD ends i nan) ≡ true)
+      → {vals : List Float}
+      → vals ≡ lawList law k (length cols) starts ends
       → {w w′ : List Float}
-      → (let L = rowProduct64 n rowStarts cols (listIn pool) in
+      → (let L = rowProduct64 n rowStarts cols vals in
       TermsAdded (ieee binary64) n (3 * n) (reciprocalFactorial binary64) 4
       (omega4 (ieee binary64) n minusHalf sqrt3Over12 sign τ L L) w w′)
       → RunStepTaken n rowStarts cols law starts ends k τ f1 f2 sign Accepted w w′
-  constant-taken pool is room all-finite {w} {w′} terms =
+  unfolding lawList
+  constant-taken constant room-starts room-ends finite-starts finite-ends {vals} named {w} {w′} terms =
+      let is : (f : Float) → valuesAt law (length cols) f (listIn starts) (listIn ends) ≡ vals =
+      λ f. law-values law k (length cols) f starts ends constant ∙ sym named in
       let passed : (f : Float) → Accepted ≡ sampledFault (valuesAt law (length cols) f (listIn starts) (listIn ends)) =
-      λ f. none-refused pool room all-finite ∙ ap sampledFault (sym (is f)) in
+      λ f. one-passed (eqb law 0) _ _ (none-refused starts room-starts finite-starts) (none-refused ends room-ends finite-ends)
+      ∙ ap sampledFault (sym (law-values law k (length cols) f starts ends constant)) in
       record {
         answer = accepted-then Accepted Accepted _ _ (passed f1) refl (passed f2);
         taken = λ a. terms .sum
@@ -220,29 +232,11 @@ module _ (n : ℕ) (rowStarts cols : List ℕ) (law : ℕ) (starts ends : List F
         rest = λ j h. terms .rest j (omega arith);
       }
 
--- the list of each law
-module _ (law m : ℕ) (f : Float) (start end : List Float) where
-  -- law 0: the start list
-  pub values-start : law ≡ 0 → valuesAt law m f start end ≡ start
-  unfolding valuesAt byLaw
-  values-start z = let first : eqb law 0 ≡ true = eq-eqb law 0 z in rw first refl
-
-  -- law 1: the end list
-  pub values-end : (law ≡ 0 → ⊥) → law ≡ 1 → valuesAt law m f start end ≡ end
-  unfolding valuesAt byLaw
-  values-end other one =
-      let first : eqb law 0 ≡ false = ne-eqb law 0 other in
-      let second : eqb law 1 ≡ true = eq-eqb law 1 one in
-      rw (first, second) refl
-
--- a law that is neither 0 nor 1 is 2
+-- the step of a law that is 2
 pub taken-by-law : {n : ℕ} {rowStarts cols : List ℕ} (law : ℕ) {starts ends : List Float} {k : ℕ} {τ f1 f2 sign : Float}
     {answer : Checked} {w w′ : List Float}
-    → law ≤ 2
-    → (law ≡ 0 → ⊥)
-    → (law ≡ 1 → ⊥)
+    → law ≡ 2
     → RunStepTaken n rowStarts cols 2 starts ends k τ f1 f2 sign answer w w′
     → RunStepTaken n rowStarts cols law starts ends k τ f1 f2 sign answer w w′
-taken-by-law {n} {rowStarts} {cols} law {starts} {ends} {k} {τ} {f1} {f2} {sign} {answer} {w} {w′} known not-start not-end taken =
-    let two : 2 ≡ law = omega arith in
-    subst (λ (l : ℕ). RunStepTaken n rowStarts cols l starts ends k τ f1 f2 sign answer w w′) two taken
+taken-by-law {n} {rowStarts} {cols} law {starts} {ends} {k} {τ} {f1} {f2} {sign} {answer} {w} {w′} two taken =
+    subst (λ (l : ℕ). RunStepTaken n rowStarts cols l starts ends k τ f1 f2 sign answer w w′) (sym two) taken

@@ -26,6 +26,7 @@ use graph_pairs::kernel::omega_in;
 use graph_pairs::kernel::products_in;
 use graph_scratch::kernel::product_in;
 use graph_traj_samples::kernel::sample;
+use graph_traj_segment::kernel::law_list;
 use magnus_graph::SQRT3_OVER_12_F64;
 use magnus_graph_helpers::kernel::omega_sum;
 use magnus_graph_helpers::kernel::reciprocal_factorial;
@@ -173,42 +174,16 @@ fn constant_taylor4(
     }
 }
 
-// The step in a segment of law 0 or 1: both samples are segment k's list in the pool that the law names, uncopied.
-fn constant_step(
-    row_ptr: &[usize],
-    col_idx: &[u32],
-    pool: &[f64],
-    k: usize,
-    n: usize,
-    tau: f64,
-    sign: f64,
-    work: &mut [f64],
-)
-    requires { ⌜ Pattern n (now «row_ptr») (now «col_idx») ⌝ }
-    requires { ⌜ (k ≤ 65535) × (k * length (now «col_idx») + length (now «col_idx») ≤ length (now pool)) ⌝ }
-    requires { ⌜ 3 * n ≤ length (now work) ⌝ }
-    ensures { λ _. let A = ieee binary64 in
-        let m = length (now («col_idx» .entry)) in
-        let L = rowProduct64 n (now («row_ptr» .entry)) (now («col_idx» .entry)) (part (k * m) m (now (pool .entry))) in
-        ⌜ TermsAdded A n (3 * n) (reciprocalFactorial binary64) 4 (omega4 A n minusHalf sqrt3Over12 sign tau L L)
-        (now (work .entry)) (now (work .exit)) ⌝ }
-{
-    let m = col_idx.len();
-    let from = k * m;
-    let to = from + m;
-    constant_taylor4(row_ptr, col_idx, &pool[from..to], tau, sign, work, n);
-}
-
 // ---- the step
 
 // One step in segment k by its law, with samples at two fractions of the way through the segment: the held signal, the vector at 0,
 // becomes its successor unless row 20 refuses. Under laws 0 and 1 both samples are the caller's own list, finite and uncopied.
-pub fn run_step(
+pub fn run_step<'a>(
     row_ptr: &[usize],
     col_idx: &[u32],
     law: u8,
-    starts: &[f64],
-    ends: &[f64],
+    starts: &'a [f64],
+    ends: &'a [f64],
     k: usize,
     n: usize,
     tau: f64,
@@ -227,25 +202,22 @@ pub fn run_step(
     ensures { λ r. ⌜ RunStepTaken n (now («row_ptr» .entry)) (now («col_idx» .entry)) law (now (starts .entry)) (now (ends .entry)) k
         tau fraction1 fraction2 sign r (now (work .entry)) (now (work .exit)) ⌝ }
 {
-    if law == 0 {
-        constant_step(row_ptr, col_idx, starts, k, n, tau, sign, work);
-        return Checked::Accepted;
+    if law == 2 {
+        return sampled_step(
+            row_ptr,
+            col_idx,
+            starts,
+            ends,
+            k,
+            n,
+            tau,
+            fraction1,
+            fraction2,
+            sign,
+            work,
+        );
     }
-    if law == 1 {
-        constant_step(row_ptr, col_idx, ends, k, n, tau, sign, work);
-        return Checked::Accepted;
-    }
-    sampled_step(
-        row_ptr,
-        col_idx,
-        starts,
-        ends,
-        k,
-        n,
-        tau,
-        fraction1,
-        fraction2,
-        sign,
-        work,
-    )
+    let vals = law_list(law, starts, ends, k, col_idx.len());
+    constant_taylor4(row_ptr, col_idx, vals, tau, sign, work, n);
+    Checked::Accepted
 }

@@ -1,6 +1,6 @@
 -- `law_list` meets its contract: in each case of the law it hands back the list of `lawList`. Assumes nothing.
 use borrow.Author.Needs.{needs}
-use Rattle.graph_traj_segment.proofs.Laws.{law-start, law-end, law-sampled}
+use Rattle.graph_traj_segment.proofs.Laws.{law-start, law-end}
 use Rattle.graph_traj_segment.proofs.kernel.law_list.Statement.{statement}
 use Rattle.graph_traj_segment.proofs.kernel.law_list.Tie as tie
 
@@ -23,7 +23,7 @@ part-result-end : tie.Need-part-result-end
 part-result-end c = search needs
 
 returns : tie.Need-returns
-returns c = law-start _ _ _ _ _ _ (c .before .if1 .taken)
+returns c = law-start _ _ _ _ _ (c .before .if1 .taken)
 
 mul-result-2 : tie.Need-mul-result-2
 mul-result-2 c = search needs
@@ -38,10 +38,7 @@ part-result-end-2 : tie.Need-part-result-end-2
 part-result-end-2 c = search needs
 
 returns-2 : tie.Need-returns-2
-returns-2 c = law-end _ _ _ _ _ _ (c .before .before .if1 .left) (c .before .if2 .taken)
-
-returns-3 : tie.Need-returns-3
-returns-3 c = law-sampled _ _ _ _ _ _ (c .before .if1 .left) (c .if2 .left)
+returns-2 c = law-end _ _ _ _ _ (c .before .if1 .left)
 
 pub law-list-spec : {M : Type 1} → statement M
 law-list-spec =
@@ -58,5 +55,4 @@ law-list-spec =
     sub-result-2
     part-result-start-2
     part-result-end-2
-    returns-2
-    returns-3)
+    returns-2)
