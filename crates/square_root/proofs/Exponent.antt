@@ -3,18 +3,18 @@
 use mathlib.Core.Path.{_≡_, refl, sym, ap, _∙_, subst}
 use mathlib.Core.Bool.{Bool, true, false, not, cond}
 use Prim.Native.Nat.{ℕ, zero, suc, _+_, _-_, _*_, _/_, _%_, _^_, _≤_, _<_}
-use native.Mathlib.Nat.{le-trans, le-of-eq, lt-of-le-of-lt, lt-of-lt-of-le, lt-of-not-le, not-le-of-lt, div-le-self, mod-eq-of-lt, mul-assoc, mul-le-mul-right, mul-lt-mul-of-pos-right}
+use native.Mathlib.Nat.{le-trans, le-of-eq, lt-of-le-of-lt, lt-of-lt-of-le, lt-of-not-le, not-le-of-lt, mod-eq-of-lt, mul-assoc, mul-le-mul-right, mul-lt-mul-of-pos-right}
 use native.Mathlib.Omega.{arith}
 use lib.Count.{leadingZeros, leading-top}
-use lib.Dec.{T, leb, ltb, leb→le, nleb→lt, lit≤}
+use lib.Dec.{T, leb, leb→le, nleb→lt, lit≤}
 use lib.Ieee.{binary64}
-use lib.IntN.{ℤ, pos, negsuc, negℤ, natAbs, pos-ne-negsuc, subℕ, _+ℤ_, _-ℤ_}
+use lib.IntN.{ℤ, pos, negsuc, natAbs, pos-ne-negsuc, subℕ, _+ℤ_, _-ℤ_}
 use lib.Pow.{pow-pos, pow-mono, pow-add}
-use lib.Signed.{ltZ, leZ, quotZ, mag}
+use lib.Signed.{mag-shr, shrZ}
 use mir.Syntax.{w64}
 use mir.Val.{SFits, ofZ, toZ}
 use mir.ValLaws.{toZ-ofZ}
-use borrow.Author.Tests.{ltb-true, lt-ltb, le-ltb}
+use borrow.Author.Tests.{lt-ltb, le-ltb}
 use Rattle.square_root.specs.Steps.{halfDown, magnitude, Normalized}
 
 -- a number that the machine read back from e's bits, and e
@@ -32,52 +32,15 @@ difference a b h = ap (λ (t : Bool). cond t (negsuc (b - suc a)) (pos (a - b)))
 pub difference-below : (a b : ℕ) → a < b → subℕ a b ≡ negsuc (b - suc a)
 difference-below a b h = ap (λ (t : Bool). cond t (negsuc (b - suc a)) (pos (a - b))) (lt-ltb a b h)
 
--- ---- half of an exponent below zero: (e - 1) / 2, cut toward zero
+-- ---- half of an exponent: a shift of a signed number rounds toward minus infinity
 
-pub less-one-fits : (e r : ℤ) → r ≡ e → SFits w64 e → T (leZ (negsuc 1073) e) → SFits w64 (r -ℤ pos 1)
-less-one-fits e r p f h = subst (λ (z : ℤ). SFits w64 (z -ℤ pos 1)) (sym p) (at e f h)
+pub shifted-half : {e : ℤ} → SFits w64 e → toZ w64 (ofZ w64 (shrZ (toZ w64 (ofZ w64 e)) 2)) ≡ halfDown e
+shifted-half {e} h =
+    ap (λ (z : ℤ). toZ w64 (ofZ w64 (shrZ z 2))) (read-back h) ∙ read-back record { sfits = lt-of-le-of-lt (mag-shr e 2) (h .sfits) } ∙ half e
   where
-    at : (e : ℤ) → SFits w64 e → T (leZ (negsuc 1073) e) → SFits w64 (e -ℤ pos 1)
-    at (pos zero) f h = record { sfits = small (lit≤ tt) }
-    at (pos (suc a)) f h = subst (λ (z : ℤ). SFits w64 z) (sym (difference (suc a) 1 (one a))) record { sfits = lt-of-le-of-lt (less a) (f .sfits) }
-      where
-        one : (a : ℕ) → 1 ≤ suc a
-        one a = omega arith
-
-        less : (a : ℕ) → suc a - 1 ≤ suc a
-        less a = omega arith
-    at (negsuc a) f h = record { sfits = small (bound (leb→le a 1073 h)) }
-      where
-        bound : a ≤ 1073 → suc (a + 0) ≤ 4096
-        bound h = omega arith
-
-half-fits : (e : ℤ) → SFits w64 e → SFits w64 (quotZ e (pos 2))
-half-fits (pos a) h = record { sfits = lt-of-le-of-lt (div-le-self a 2) (h .sfits) }
-half-fits (negsuc a) h = record { sfits = lt-of-le-of-lt (negated (suc a / 2) a (halved a)) (h .sfits) }
-  where
-    halved : (a : ℕ) → suc a / 2 ≤ suc a
-    halved a = omega arith
-
-    negated : (q a : ℕ) → q ≤ suc a → mag (negℤ (pos q)) ≤ a
-    negated zero a h = omega arith
-    negated (suc q) a h = omega arith
-
-pub quotient-fits : (e r : ℤ) → r ≡ e → SFits w64 e → SFits w64 (quotZ r (pos 2))
-quotient-fits e r p h = subst (λ (z : ℤ). SFits w64 (quotZ z (pos 2))) (sym p) (half-fits e h)
-
-pub half-below : (e : ℤ) → ltZ e (pos 0) ≡ true → quotZ (e -ℤ pos 1) (pos 2) ≡ halfDown e
-half-below (pos a) t = absurd (none (ltb-true a 0 t))
-  where
-    none : a < 0 → ⊥
-    none h = omega arith
-half-below (negsuc a) t = ap (λ (q : ℕ). negℤ (pos q)) (more a)
-  where
-    more : (a : ℕ) → suc (suc (a + 0)) / 2 ≡ suc (a / 2)
-    more a = omega arith
-
-pub half-above : (e : ℤ) → ltZ e (pos 0) ≡ false → quotZ e (pos 2) ≡ halfDown e
-half-above (pos a) t = refl
-half-above (negsuc a) t = absurd (subst (λ (b : Bool). cond b Unit ⊥) t tt)
+    half : (e : ℤ) → shrZ e 2 ≡ halfDown e
+    half (pos a) = refl
+    half (negsuc a) = refl
 
 -- ---- the exponent of a value, counted from the smallest
 

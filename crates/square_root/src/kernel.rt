@@ -12,12 +12,12 @@ ghost use Rattle.square_root.specs.SquareRoot.{squareRoot};
 ghost use Rattle.square_root.specs.Steps.{halfDown, RootDigits, Normalized, Scaled, PatternOf};
 
 // The weight of the exponent's field: 2^52.
-const HIDDEN: u64 = 0x10_0000_0000_0000;
+pub const HIDDEN: u64 = 0x10_0000_0000_0000;
 // 2^26, at which a root's 53 digits are split.
-const SPLIT: u64 = 0x400_0000;
-
-const SIGN: u64 = 0x8000_0000_0000_0000;
-
+pub const SPLIT: u64 = 0x400_0000;
+// The sign bit: 2^63.
+pub const SIGN: u64 = 0x8000_0000_0000_0000;
+// The bits of the infinity.
 const INFINITY: u64 = 0x7FF0_0000_0000_0000;
 
 // Whether r·(r + 1) is below radicand·2^52. The product is formed in parts of 26 digits, and its whole part after division by 2^52 is
@@ -110,11 +110,7 @@ pub fn floor_half(exponent: i64) -> i64
     requires { ⌜ T (leZ (negsuc 1073) exponent) ⌝ }
     ensures { λ h. ⌜ h ≡ halfDown exponent ⌝ }
 {
-    if exponent < 0 {
-        (exponent - 1) / 2
-    } else {
-        exponent / 2
-    }
+    exponent >> 1
 }
 
 // A value above zero with its exponent halved: digits · 2^(2·half − 52).

@@ -1,6 +1,6 @@
 -- Answers that stand in the sign bit of a word, 2 ^ 63. Assumes nothing.
-use mathlib.Core.Path.{_≡_, ap, _∙_}
-use Prim.Native.Nat.{ℕ, _+_, _-_, _*_, _%_, _^_, _≤_, _<_}
+use mathlib.Core.Path.{_≡_, _∙_}
+use Prim.Native.Nat.{ℕ, _+_, _-_, _*_, _^_, _≤_, _<_}
 use native.Mathlib.Nat.{le-trans, mod-eq-of-lt}
 use native.Mathlib.Omega.{arith}
 use lib.Bits.{bitAnd, bitXor, and-le-l, and-le-r, and-comm, and-mask, and-shifted, xor-add-and}

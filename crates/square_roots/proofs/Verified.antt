@@ -4,7 +4,7 @@ use mathlib.Core.Logic.{_⊎_, inl, inr, ⊎-elim}
 use Prim.Native.Nat.{ℕ, _+_, _-_, _*_, _/_, _%_, _^_, _≤_, _<_}
 use native.Mathlib.Decide.{decLe}
 use native.Mathlib.Omega.{arith}
-use lib.Bits.{bitAnd, bitXor, xor-lt}
+use lib.Bits.{bitAnd, bitXor}
 use lib.Ieee.{Float, binary64, ofBits}
 use lib.IntN.{ℤ, pos, natAbs, _-ℤ_}
 use mir.Syntax.{w64}
@@ -50,9 +50,6 @@ parity bits = elim (decLe (odd bits) 0) [
   | yes l ↦ inl (omega arith)
   | no l ↦ inr (omega arith)
 ]
-
-pub radicand-small : (bits : ℕ) → radicand bits < 2 ^ 54
-radicand-small bits = ⊎-elim (λ h. omega (arith, without-factor bits h)) (λ h. omega (arith, with-factor bits h)) (parity bits)
 
 module _ (bits : ℕ) (normal : 1 ≤ bits / 4503599627370496) (finite : bits / 4503599627370496 ≤ 2046) where
   below : bits < 0x7FF0_0000_0000_0000
@@ -117,7 +114,3 @@ passed {bits = bits} of-x of-y digits set =
     let (second, finite) = both-set _ _ first in
     let (test, normal) = both-set _ _ second in
     verified bits (omega arith) (omega arith) of-x of-y (digits test) (same-set _ _ half)
-
--- the exponents are small, and so are the digits in which they differ
-pub differ-little : (root f o : ℕ) → root < 2 ^ 64 → f < 2 ^ 12 → o < 2 → bitXor (root / 4503599627370496 + o) (f / 2 + 512) ≤ 2 ^ 63
-differ-little root f o r l k = omega (arith, xor-lt 13 (root / 4503599627370496 + o) (f / 2 + 512) (omega arith) (omega arith))

@@ -10,18 +10,15 @@ ghost use Rattle.scratch.specs.Parts.{part, put, Apart};
 ghost use Rattle.square_root.specs.SquareRoot.{squareRoot};
 ghost use Rattle.square_root.specs.Steps.{RootDigits};
 ghost use Rattle.square_roots.specs.Overwritten.{Overwritten};
+use square_root::kernel::HIDDEN;
+use square_root::kernel::SIGN;
+use square_root::kernel::SPLIT;
 use square_root::kernel::bits_or_zero;
 use square_root::kernel::inverse_root;
 use square_root::kernel::root_near;
 
-// The weight of the exponent's field: 2^52.
-const HIDDEN: u64 = 0x10_0000_0000_0000;
-// 2^26, at which a root's 53 digits are split.
-const SPLIT: u64 = 0x400_0000;
 // 2^27, the weight of the last of the 26 leading digits.
 const LAST: u64 = 0x800_0000;
-// The sign bit: 2^63.
-const SIGN: u64 = 0x8000_0000_0000_0000;
 
 // A value near the square root of x, if x is above zero and not subnormal: but for a few of a million, the square root itself. Nothing is
 // promised of it.

@@ -1,8 +1,8 @@
 -- `bits_or_zero` meets its contract: 0 is no NaN's pattern, and a value that equals itself is no NaN and has the pattern that it is written in.
 -- Assumes nothing.
-use mathlib.Core.Path.{sym, subst, _∙_}
+use mathlib.Core.Path.{sym, subst}
 use mathlib.Core.Bool.{Bool, not}
-use Prim.Native.Nat.{ℕ, _<_}
+use Prim.Native.Nat.{_<_}
 use native.Mathlib.Omega.{arith}
 use lib.Dec.{T}
 use lib.Ieee.{Float, binary64, toBits, isNan, fits}

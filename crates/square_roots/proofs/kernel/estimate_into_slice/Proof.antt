@@ -1,8 +1,7 @@
 -- `estimate_into_slice` promises nothing of the values; the invariant keeps the length. Assumes nothing.
-use mathlib.Core.Path.{_≡_, _∙_}
-use Prim.Native.Nat.{ℕ, _-_, _≤_}
-use native.Mathlib.Omega.{arith}
-use lib.ListN.{length, length-set}
+use mathlib.Core.Path.{_≡_}
+use Prim.Native.Nat.{_-_}
+use lib.ListN.{length}
 use borrow.Author.Needs.{needs}
 use Rattle.square_roots.proofs.kernel.estimate_into_slice.Statement.{statement}
 use Rattle.square_roots.proofs.kernel.estimate_into_slice.Tie as tie
