@@ -10,7 +10,6 @@ use lib.Ieee.{Float, binary64, fits}
 use lib.Ieee.Fits.{div-fits}
 use borrow.Author.Tests.{ne-eqb}
 use Rattle.arithmetic.specs.Vector.{tabulate}
-use Rattle.arithmetic.proofs.Tabulate.{length-tabulate}
 use Rattle.error.specs.declared.Checked.{Checked}
 use Rattle.error.specs.declared.Checked.the-variants.{Accepted}
 use Rattle.magnus.specs.Agree.{OfFormat}
@@ -20,14 +19,12 @@ use Rattle.graph_traj_faults.specs.AcceptedRun.{AcceptedRun}
 use Rattle.graph_traj_adjoint_checks.specs.AcceptedAdjointRun.{AcceptedAdjointRun}
 use Rattle.graph_traj_faults.proofs.RunSound.{run-accepted}
 use Rattle.graph_traj_adjoint_checks.proofs.AdjointRunSound.{adjoint-run-accepted}
-use Rattle.magnus_graph_traj_run.specs.RunSteps.{segmentSteps, allSteps}
+use Rattle.magnus_graph_traj_steps.specs.RunSteps.{segmentSteps, allSteps}
+use Rattle.magnus_graph_traj_steps.proofs.Courses.{segment-count}
 use Rattle.magnus_graph_traj_outcome.specs.RunOutcome.{Run, forwardRun, adjointRun}
 use Rattle.magnus_graph_traj_outcome.proofs.RunOutcome.{RunOfFormat, RunLengths}
 
 -- ---- how many steps
-
-segment-count : (i steps : ℕ) → length (segmentSteps i steps) ≡ steps
-segment-count i steps = length-tabulate _ steps
 
 -- a forward run has a step
 some-forward : (steps segments : ℕ) → 0 < steps → 0 < segments → eqb (length (allSteps steps segments)) 0 ≡ false

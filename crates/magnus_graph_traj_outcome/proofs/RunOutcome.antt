@@ -28,9 +28,9 @@ use Rattle.magnus_graph_checks.proofs.StepSound.{refused-not-accepted}
 use Rattle.graph_traj_segment.specs.Times.{c1, c2}
 use Rattle.graph_traj_parts.specs.Trajectory.{Trajectory}
 use Rattle.graph_traj_faults.specs.RunChecks.{runNeed}
-use Rattle.magnus_graph_traj_run.specs.RunSteps.{RunStep, runStepFault, runStepImage, firstFault}
+use Rattle.magnus_graph_traj_steps.specs.RunSteps.{RunStep, runStepFault, runStepImage, firstFault}
 use Rattle.magnus_graph_traj_outcome.specs.PlainSteps.{formedRunStep, stepAgrees, plainStep}
-use Rattle.magnus_graph_traj_run.specs.StepsTaken.{StepsTaken}
+use Rattle.magnus_graph_traj_steps.specs.StepsTaken.{RunStepsTaken}
 use Rattle.magnus_graph_traj_outcome.specs.RunOutcome.{Run, runAnswer, PlainRun, Ran}
 use Rattle.magnus_graph_traj_outcome.proofs.SampledFormat.{sample-of-format}
 
@@ -110,7 +110,7 @@ module _ (run : Run) where
       module _ (some : eqb (length steps) 0 ≡ false) (room : runNeed t ≤ length (run .work)) {answer : Checked}
           (loaded taken cleared : List Float)
           (load : loaded ≡ put 0 (run .signal) (run .work))
-          (step : StepsTaken t (run .course) (run .sign) steps answer loaded taken)
+          (step : RunStepsTaken t (run .course) (run .sign) steps answer loaded taken)
           (clear : cleared ≡ put 0 (zeros (runNeed t)) taken) where
         is : answer ≡ runAnswer run
         is = accepted-then answer check (run .checks) _ made accepted (step .answer-is)

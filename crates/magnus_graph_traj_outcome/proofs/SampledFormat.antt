@@ -15,7 +15,7 @@ use Rattle.magnus.specs.Agree.{OfFormat}
 use Rattle.magnus.proofs.Agree.{tabulate-of-format}
 use Rattle.graph_traj_segment.specs.Laws.{lawValue, lawValues, byLaw, valuesAt}
 use Rattle.graph_traj_parts.specs.Trajectory.{Trajectory}
-use Rattle.magnus_graph_traj_run.specs.RunSteps.{RunStep, Course, sampleAt}
+use Rattle.magnus_graph_traj_steps.specs.RunSteps.{RunStep, Course, sampleAt}
 
 -- a part of a list
 part-of-format : (at n : ℕ) (w : List Float) → OfFormat binary64 w → OfFormat binary64 (part at n w)

@@ -12,7 +12,7 @@ use Rattle.magnus.specs.Formed.{FormedOperator, formedProduct, formedStep4}
 use Rattle.magnus_graph.specs.Omega4.{sqrt3Over12}
 use Rattle.graph_traj_segment.specs.Times.{c1, c2}
 use Rattle.graph_traj_parts.specs.Trajectory.{Trajectory}
-use Rattle.magnus_graph_traj_run.specs.RunSteps.{RunStep, Course, sampleAt, product}
+use Rattle.magnus_graph_traj_steps.specs.RunSteps.{RunStep, Course, sampleAt, product}
 
 module _ (t : Trajectory) (course : Course) where
   -- the product with a sample, and the held signal after the step, with, for each signal, whether every number formed is finite

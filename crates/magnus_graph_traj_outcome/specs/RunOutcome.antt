@@ -18,8 +18,8 @@ use Rattle.magnus_graph.specs.StepOutcome.{forward, adjoint}
 use Rattle.graph_traj_parts.specs.Trajectory.{Trajectory}
 use Rattle.graph_traj_faults.specs.RunChecks.{runNeed, runFault}
 use Rattle.graph_traj_adjoint_checks.specs.AdjointRunChecks.{adjointRunFault}
-use Rattle.magnus_graph_traj_run.specs.RunSteps.{RunStep, Course, forwardCourse, adjointCourse, runStepFault, runStepImage}
-use Rattle.magnus_graph_traj_run.specs.RunSteps.{firstFault}
+use Rattle.magnus_graph_traj_steps.specs.RunSteps.{RunStep, Course, forwardCourse, adjointCourse, runStepFault, runStepImage}
+use Rattle.magnus_graph_traj_steps.specs.RunSteps.{firstFault}
 use Rattle.magnus_graph_traj_outcome.specs.PlainSteps.{formedRunStep, stepAgrees, plainStep}
 
 -- a run with its arguments: what it is lent, what its checks answer before the first step, how it goes, and the commutator's sign

@@ -1,2 +1,1 @@
-pub mod StepsTaken
-pub mod Walk
+pub mod StepAt

@@ -1,2 +1,1 @@
-pub mod RunSteps
-pub mod StepsTaken
+pub mod StepAt

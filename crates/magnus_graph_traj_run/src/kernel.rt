@@ -5,8 +5,9 @@ ghost use lib.ListN.{length};
 ghost use Rattle.graph_traj_parts.specs.Trajectory.{trajectory, AcceptedTrajectory};
 ghost use Rattle.graph_traj_faults.specs.RunChecks.{runNeed};
 ghost use Rattle.magnus_graph.specs.StepOutcome.{forward, adjoint};
-ghost use Rattle.magnus_graph_traj_run.specs.RunSteps.{segmentSteps, allSteps, forwardCourse, adjointCourse};
-ghost use Rattle.magnus_graph_traj_run.specs.StepsTaken.{StepAt, StepsTaken};
+ghost use Rattle.magnus_graph_traj_steps.specs.RunSteps.{segmentSteps, allSteps, forwardCourse, adjointCourse};
+ghost use Rattle.magnus_graph_traj_steps.specs.StepsTaken.{RunStepsTaken};
+ghost use Rattle.magnus_graph_traj_run.specs.StepAt.{StepAt};
 use error::Checked;
 use graph_traj_segment::kernel::Segment;
 use magnus_graph_traj_step::kernel::run_step;
@@ -74,7 +75,7 @@ pub fn run_segment_steps<'a>(
         (now starts) (now ends) (now laws)) ≤ length (now work)) ⌝ }
     ensures { λ r. let t = trajectory n (now («row_ptr» .entry)) (now («col_idx» .entry)) segments
         (now (breakpoints .entry)) (now (starts .entry)) (now (ends .entry)) (now (laws .entry)) in
-        ⌜ StepsTaken t (forwardCourse (t .breakpoints) segments steps) forward (segmentSteps i steps) r
+        ⌜ RunStepsTaken t (forwardCourse (t .breakpoints) segments steps) forward (segmentSteps i steps) r
         (now (work .entry)) (now (work .exit)) ⌝ }
 {
     let mut segment = Segment::new(breakpoints[i], breakpoints[i + 1], steps);
@@ -122,7 +123,7 @@ pub fn run_all_segments<'a>(
         (now starts) (now ends) (now laws)) ≤ length (now work)) ⌝ }
     ensures { λ r. let t = trajectory n (now («row_ptr» .entry)) (now («col_idx» .entry)) segments
         (now (breakpoints .entry)) (now (starts .entry)) (now (ends .entry)) (now (laws .entry)) in
-        ⌜ StepsTaken t (forwardCourse (t .breakpoints) segments steps) forward (allSteps steps segments) r
+        ⌜ RunStepsTaken t (forwardCourse (t .breakpoints) segments steps) forward (allSteps steps segments) r
         (now (work .entry)) (now (work .exit)) ⌝ }
 {
     for i in 0..segments {
@@ -164,7 +165,7 @@ pub fn run_adjoint_steps<'a>(
         (now starts) (now ends) (now laws)) ⌝ }
     requires { ⌜ (steps ≤ 65535) × (runNeed (trajectory n (now «row_ptr») (now «col_idx») segments (now breakpoints)
         (now starts) (now ends) (now laws)) ≤ length (now work)) ⌝ }
-    ensures { λ r. ⌜ StepsTaken (trajectory n (now («row_ptr» .entry)) (now («col_idx» .entry)) segments
+    ensures { λ r. ⌜ RunStepsTaken (trajectory n (now («row_ptr» .entry)) (now («col_idx» .entry)) segments
         (now (breakpoints .entry)) (now (starts .entry)) (now (ends .entry)) (now (laws .entry)))
         (adjointCourse tau steps) adjoint (segmentSteps 0 steps) r (now (work .entry)) (now (work .exit)) ⌝ }
 {

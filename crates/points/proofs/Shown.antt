@@ -39,7 +39,7 @@ use Rattle.magnus_graph_checks.specs.StepChecks.{roomFault, sampleFault, sample
 use Rattle.varcoef_magnus_graph_checks.specs.WeightedStepChecks.{weightedBoundsFault, weightFault}
 use Rattle.magnus_graph_checks.specs.StepChecks.{stepLengthFault, lengthsFault, stepFault}
 use Rattle.varcoef_magnus_graph_checks.specs.WeightedStepChecks.{weightedStepFault}
-use Rattle.magnus_graph_traj_run.specs.RunSteps.{firstFault}
+use Rattle.magnus_graph_traj_steps.specs.RunSteps.{firstFault}
 use Rattle.scratch.specs.Parts.{put}
 use Rattle.square_root.specs.SquareRoot.{squareRoot}
 use Rattle.points.specs.Points.{Point, points, roots, products, steps, trajectories, x64, reals, answerOr, leaves, root}

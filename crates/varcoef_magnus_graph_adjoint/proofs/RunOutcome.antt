@@ -20,8 +20,8 @@ use Rattle.error.proofs.Left.{answers, left-unchanged, left-written}
 use Rattle.magnus.specs.Run.{runAlong}
 use Rattle.magnus.proofs.PlainRun.{plain-run}
 use Rattle.magnus_graph_checks.proofs.StepSound.{refused-not-accepted}
-use Rattle.magnus_graph_traj_run.specs.RunSteps.{RunStep, firstFault}
-use Rattle.varcoef_magnus_graph_adjoint_run.specs.StepsTaken.{StepsTaken}
+use Rattle.magnus_graph_traj_steps.specs.RunSteps.{RunStep, firstFault}
+use Rattle.magnus_graph_traj_steps.specs.StepsTaken.{StepsTaken}
 use Rattle.varcoef_magnus_graph_adjoint.specs.WeightedRunOutcome.{Run, runAnswer, PlainRun, Ran}
 
 module _ (run : Run) where
@@ -85,7 +85,7 @@ module _ (run : Run) where
             rw load (drop-of-put 0 (run .signal) (run .work) (run .need) (omega (arith, of-signal, enough))) in
             clear
             ∙ put-first-same (run .need) (zeros (run .need)) (run .work) taken (length-tabulate _ _) room
-            (step .kept .length-kept ∙ before) (step .kept .rest (run .need) (omega arith) ∙ after)
+            (step .length-kept ∙ before) (step .rest (run .need) (omega arith) ∙ after)
 
         -- a step refused
         pub run-stopped : {r : Refusal} → answer ≡ Refused r → Ran run answer (run .output) cleared

@@ -16,7 +16,7 @@ use Rattle.scratch.proofs.Parts.{getD-part}
 use Rattle.magnus.specs.Agree.{OfFormat}
 use Rattle.graph_traj_segment.specs.Laws.{lawValue, lawValues, byLaw, valuesAt}
 use Rattle.graph_traj_parts.specs.Trajectory.{Trajectory}
-use Rattle.magnus_graph_traj_run.specs.RunSteps.{RunStep, Course, sampleAt}
+use Rattle.magnus_graph_traj_steps.specs.RunSteps.{RunStep, Course, sampleAt}
 
 tabulate-of-format : (g : ℕ → Float) (n : ℕ) → ((i : ℕ) → T (fits binary64 (g i))) → OfFormat binary64 (tabulate g n)
 tabulate-of-format g n h i = elim (decLt i n) [

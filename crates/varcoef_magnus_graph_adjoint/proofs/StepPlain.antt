@@ -13,8 +13,8 @@ use Rattle.varcoef_magnus_graph.specs.WeightedOmega4.{sqrt3Over12}
 use Rattle.varcoef_magnus_graph.proofs.RootsAgree.{roots-same-list}
 use Rattle.graph_traj_segment.specs.Times.{c1, c2}
 use Rattle.graph_traj_parts.specs.Trajectory.{Trajectory}
-use Rattle.magnus_graph_traj_run.specs.RunSteps.{RunStep, Course}
-use Rattle.varcoef_magnus_graph_adjoint_run.specs.WeightedRunSteps.{weightsAt, roots}
+use Rattle.magnus_graph_traj_steps.specs.RunSteps.{RunStep, Course}
+use Rattle.varcoef_magnus_graph_traj_steps.specs.WeightedRunSteps.{weightsAt, roots}
 use Rattle.varcoef_magnus_graph_adjoint.specs.WeightedPlainSteps.{formedWeightedRunStep, weightedStepAgrees, weightedPlainStep}
 use Rattle.varcoef_magnus_graph_adjoint.proofs.SampledFormat.{sample-of-format, values-of-format}
 

@@ -11,9 +11,9 @@ use Rattle.magnus.specs.Formed.{FormedOperator, formedWeighted, formedStep4}
 use Rattle.varcoef_magnus_graph.specs.WeightedOmega4.{sqrt3Over12}
 use Rattle.graph_traj_segment.specs.Times.{c1, c2}
 use Rattle.graph_traj_parts.specs.Trajectory.{Trajectory}
-use Rattle.magnus_graph_traj_run.specs.RunSteps.{RunStep, Course}
+use Rattle.magnus_graph_traj_steps.specs.RunSteps.{RunStep, Course}
 use Rattle.magnus_graph_traj_outcome.specs.PlainSteps.{formedRunProduct, stepAgrees}
-use Rattle.varcoef_magnus_graph_adjoint_run.specs.WeightedRunSteps.{weightsAt, roots, weightedProduct}
+use Rattle.varcoef_magnus_graph_traj_steps.specs.WeightedRunSteps.{weightsAt, roots, weightedProduct}
 
 module _ (t : Trajectory) (startWeights endWeights : List Float) (course : Course) where
   -- the weighted product with a sample, and the held signal after the step, with, for each signal, whether every number formed is finite

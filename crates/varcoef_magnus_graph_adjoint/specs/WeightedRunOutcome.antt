@@ -18,8 +18,8 @@ use Rattle.magnus.specs.Run.{runAlong, everyStep, formedAlong}
 use Rattle.magnus_graph.specs.StepOutcome.{adjoint}
 use Rattle.graph_traj_parts.specs.Trajectory.{Trajectory}
 use Rattle.graph_traj_adjoint_checks.specs.AdjointRunChecks.{weightedRunNeed, weightedAdjointRunFault}
-use Rattle.magnus_graph_traj_run.specs.RunSteps.{RunStep, Course, adjointCourse, firstFault}
-use Rattle.varcoef_magnus_graph_adjoint_run.specs.WeightedRunSteps.{weightedRunStepFault, weightedRunStepImage}
+use Rattle.magnus_graph_traj_steps.specs.RunSteps.{RunStep, Course, adjointCourse, firstFault}
+use Rattle.varcoef_magnus_graph_traj_steps.specs.WeightedRunSteps.{weightedRunStepFault, weightedRunStepImage}
 use Rattle.varcoef_magnus_graph_adjoint.specs.WeightedPlainSteps.{formedWeightedRunStep, weightedStepAgrees, weightedPlainStep}
 
 -- what a run does in each step

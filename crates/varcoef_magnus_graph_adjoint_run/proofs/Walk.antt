@@ -28,65 +28,17 @@ use Rattle.magnus_graph_checks.proofs.StepSound.{refused-not-accepted}
 use Rattle.varcoef_magnus_graph.specs.WeightedOmega4.{sqrt3Over12}
 use Rattle.varcoef_magnus_graph_step.specs.WeightedOmega4.{weightedOmega4}
 use Rattle.graph_traj_segment.specs.declared.kernel.Segment.{Segment}
-use Rattle.graph_traj_segment.specs.SegmentValue.{nextStep}
 use Rattle.graph_traj_segment.specs.Laws.{fraction, lawValues}
 use Rattle.graph_traj_segment.specs.Times.{c1, c2, adjointStepStart, sampleTime}
-use Rattle.magnus_graph_traj_run.specs.RunSteps.{RunStep, segmentSteps, firstFault}
+use Rattle.magnus_graph_traj_steps.specs.RunSteps.{RunStep, stepIn, segmentSteps, firstFault}
 use Rattle.varcoef_magnus_graph_traj_step.specs.StepTaken.{Kept, StepTaken, stepImage}
 use Rattle.varcoef_magnus_graph_traj_step.proofs.Kept.{kept-all, kept-then, kept-put}
-use Rattle.varcoef_magnus_graph_adjoint_run.specs.StepsTaken.{StepsTaken, sampledStepFault, sampledStepImage}
-use Rattle.varcoef_magnus_graph_adjoint_run.proofs.StepsTaken.{run-along-append, first-fault-append, refusal-stays, segment-grows}
-use Rattle.varcoef_magnus_graph_adjoint_run.proofs.StepsTaken.{none-taken, one-taken, more-taken, stays-refused}
-
--- step j of the one segment, and the segment's value before it
-abbrev pub stepOf : ℕ → RunStep
-stepOf j = record { segment = 0; number = j }
-
-abbrev pub segmentBefore : Segment → ℕ → Segment
-segmentBefore first j = record { start = first .start; end = first .end; tau = first .tau; step = j }
+use Rattle.varcoef_magnus_graph_traj_steps.specs.SampledSteps.{sampledStepFault, sampledStepImage}
+use Rattle.magnus_graph_traj_steps.specs.StepsTaken.{StepsTaken}
+use Rattle.magnus_graph_traj_steps.proofs.Courses.{segment-grows, segmentBefore}
+use Rattle.magnus_graph_traj_steps.proofs.StepsTaken.{run-along-append, refusal-stays, one-taken}
 
 -- ---- step by step
-
--- j of the steps were taken, and the segment's value is the one before step j
-pub record Walked (fault : RunStep → Checked) (image : RunStep → List Float → List Float) (n need : ℕ) (first : Segment) (steps j : ℕ)
-    (w₀ w : List Float) (segment : Segment) : Type 0 where
-  pub within : j ≤ steps
-  pub taken : StepsTaken fault image n need (segmentSteps 0 j) Accepted w₀ w
-  pub here : segment ≡ segmentBefore first j
-
-module _ {fault : RunStep → Checked} {image : RunStep → List Float → List Float} {n need : ℕ} {first : Segment} where
-  pub walk-begins : (steps : ℕ) (w : List Float) → first .step ≡ 0 → Walked fault image n need first steps 0 w w first
-  unfolding tabulate
-  walk-begins steps w e =
-      record { within = omega arith; taken = none-taken w; here = ap (segmentBefore first) e }
-
-  module _ {steps j : ℕ} {w₀ w : List Float} {segment : Segment} (walked : Walked fault image n need first steps j w₀ w segment) where
-    pub step-number : segment .step ≡ j
-    step-number = ap (λ (s : Segment). s .step) (walked .here)
-
-    pub walk-ends : steps ≤ j → StepsTaken fault image n need (segmentSteps 0 steps) Accepted w₀ w
-    walk-ends l =
-        let e : j ≡ steps = omega (arith, walked .within) in
-        subst (λ (k : ℕ). StepsTaken fault image n need (segmentSteps 0 k) Accepted w₀ w) e (walked .taken)
-
-    module _ (l : j < steps) {answer : Checked} {w′ : List Float}
-        (made : StepsTaken fault image n need (stepOf j ∷ []) answer w w′) where
-      turned : StepsTaken fault image n need (segmentSteps 0 (suc j)) answer w₀ w′
-      turned =
-          subst (λ (ss : List RunStep). StepsTaken fault image n need ss answer w₀ w′) (sym (segment-grows 0 j))
-          (more-taken (walked .taken) made)
-
-      pub walk-on : {after : Segment} → answer ≡ Accepted → after ≡ nextStep segment
-          → Walked fault image n need first steps (j + 1) w₀ w′ after
-      walk-on {after} p e = record {
-        within = omega arith;
-        taken = subst (λ (k : ℕ). StepsTaken fault image n need (segmentSteps 0 k) Accepted w₀ w′) (sym (add-one j))
-            (subst (λ (a : Checked). StepsTaken fault image n need (segmentSteps 0 (suc j)) a w₀ w′) p turned);
-        here = e ∙ ap nextStep (walked .here);
-      }
-
-      pub walk-stops : {r : Refusal} → answer ≡ Refused r → StepsTaken fault image n need (segmentSteps 0 steps) answer w₀ w′
-      walk-stops p = stays-refused (segmentSteps 0) (λ k. stepOf k ∷ []) (segment-grows 0) l p turned
 
 -- a step of law 2 whose samples lie where the segment's value says
 module _ (n : ℕ) (rowStarts cols : List ℕ) (starts ends startWeights endWeights : List Float) (first : Segment) (steps : ℕ) where
@@ -102,7 +54,7 @@ module _ (n : ℕ) (rowStarts cols : List ℕ) (starts ends startWeights endWeig
       (lawValues (length startWeights) (fractionIn segment c2) startWeights endWeights) answer w w′
       → StepsTaken (sampledStepFault n rowStarts cols starts ends startWeights endWeights (first .start) (first .end) (first .tau) steps)
       (sampledStepImage n rowStarts cols starts ends startWeights endWeights (first .start) (first .end) (first .tau) steps)
-      n (11 * n + 2 * length cols) (stepOf j ∷ []) answer w w′
+      n (11 * n + 2 * length cols) (stepIn 0 j ∷ []) answer w w′
   sampled-one j segment {answer} {w} {w′} here taken =
       let same =
       subst (λ (s : Segment). StepTaken n rowStarts cols (s .tau)
@@ -110,7 +62,7 @@ module _ (n : ℕ) (rowStarts cols : List ℕ) (starts ends startWeights endWeig
       (lawValues (length starts) (fractionIn s c2) starts ends)
       (lawValues (length startWeights) (fractionIn s c1) startWeights endWeights)
       (lawValues (length startWeights) (fractionIn s c2) startWeights endWeights) answer w w′) here taken in
-      one-taken (stepOf j) (same .answer-is) (same .held) (same .kept)
+      one-taken (stepIn 0 j) (same .answer-is) (same .held) (same .kept .length-kept) (same .kept .rest)
 
 -- a step whose samples lie at the same fractions, said otherwise
 pub sampled-at : (n : ℕ) (rowStarts cols : List ℕ) (τ : Float) (starts ends startWeights endWeights : List Float) (f1 f2 g1 g2 : Float)
@@ -141,7 +93,7 @@ shared-refused : (f : Checked) (steps : ℕ) (q : Refusal) → 0 < steps → f �
     → firstFault (λ (s : RunStep). f) (segmentSteps 0 steps) ≡ Refused q
 unfolding firstFault next tabulate
 shared-refused f steps q l p =
-    refusal-stays (λ (s : RunStep). f) (segmentSteps 0) (λ k. stepOf k ∷ []) (segment-grows 0) 1 steps q l
+    refusal-stays (λ (s : RunStep). f) (segmentSteps 0) (λ k. stepIn 0 k ∷ []) (segment-grows 0) 1 steps q l
     (ap (λ (g : Checked). next g Accepted) p)
 
 module _ (n : ℕ) (rowStarts cols : List ℕ) (τ : Float) (x a : List Float) where
@@ -209,7 +161,7 @@ module _ (n : ℕ) (rowStarts cols : List ℕ) (τ : Float) (x a : List Float) w
       (weightedOmega4 (ieee binary64) n minusHalf sqrt3Over12 adjoint τ L L (walked .roots i) (walked .roots i)) (part 0 n w)) in
       let grown : runAlong (λ (s : RunStep). image) (segmentSteps 0 (suc j)) (part 0 n w₀)
       ≡ image (runAlong (λ (s : RunStep). image) (segmentSteps 0 j) (part 0 n w₀)) =
-      run-along-append (λ (s : RunStep). image) (segmentSteps 0 j) (stepOf j ∷ []) (part 0 n w₀) in
+      run-along-append (λ (s : RunStep). image) (segmentSteps 0 j) (stepIn 0 j ∷ []) (part 0 n w₀) in
       record {
         within = omega arith;
         held =
@@ -238,7 +190,8 @@ module _ (n : ℕ) (rowStarts cols : List ℕ) (τ : Float) (x a : List Float) w
         answer-is = sym (shared-accepted (weightFault a a) (segmentSteps 0 steps) both);
         held = λ p.
             walked .held ∙ ap (λ (k : ℕ). runAlong (λ (s : RunStep). image) (segmentSteps 0 k) (part 0 n w₀)) e;
-        kept = walked .kept;
+        length-kept = walked .kept .length-kept;
+        rest = walked .kept .rest;
       }
 
   pub constant-refused : {check : Checked} {steps : ℕ} {q : Refusal} (w : List Float)
@@ -252,35 +205,6 @@ module _ (n : ℕ) (rowStarts cols : List ℕ) (τ : Float) (x a : List Float) w
       record {
         answer-is = refused ∙ sym (shared-refused (weightFault a a) steps q l both);
         held = λ p. absurd (refused-not-accepted refl refused p);
-        kept = record { length-kept = refl; rest = λ j h. refl };
+        length-kept = refl;
+        rest = λ j h. refl;
       }
-
--- ---- the same steps said otherwise
-
-module _ (fault fault′ : RunStep → Checked) (image image′ : RunStep → List Float → List Float)
-    (faults : (j : ℕ) → fault (stepOf j) ≡ fault′ (stepOf j))
-    (images : (j : ℕ) → image (stepOf j) ≡ image′ (stepOf j)) where
-  same-fault : (steps : ℕ) → firstFault fault (segmentSteps 0 steps) ≡ firstFault fault′ (segmentSteps 0 steps)
-  unfolding firstFault tabulate
-  same-fault zero = refl
-  same-fault (suc j) =
-      first-fault-append fault (segmentSteps 0 j) (stepOf j ∷ [])
-      ∙ (λ i. next (same-fault j i) (next (faults j i) Accepted))
-      ∙ sym (first-fault-append fault′ (segmentSteps 0 j) (stepOf j ∷ []))
-
-  same-image : (steps : ℕ) (v : List Float) → runAlong image (segmentSteps 0 steps) v ≡ runAlong image′ (segmentSteps 0 steps) v
-  unfolding runAlong tabulate
-  same-image zero v = refl
-  same-image (suc j) v =
-      run-along-append image (segmentSteps 0 j) (stepOf j ∷ []) v
-      ∙ (λ i. images j i (same-image j v i))
-      ∙ sym (run-along-append image′ (segmentSteps 0 j) (stepOf j ∷ []) v)
-
-  pub same-taken : (steps : ℕ) {n need : ℕ} {answer : Checked} {w w′ : List Float}
-      → StepsTaken fault image n need (segmentSteps 0 steps) answer w w′
-      → StepsTaken fault′ image′ n need (segmentSteps 0 steps) answer w w′
-  same-taken steps {n} {w = w} taken = record {
-    answer-is = taken .answer-is ∙ same-fault steps;
-    held = λ p. taken .held p ∙ same-image steps (part 0 n w);
-    kept = taken .kept;
-  }

@@ -9,11 +9,11 @@ ghost use Rattle.varcoef_magnus_graph_checks.specs.WeightedStepChecks.{weightFa
 ghost use Rattle.graph_traj_segment.specs.Laws.{fraction, lawValues};
 ghost use Rattle.graph_traj_segment.specs.Times.{c1, c2, adjointStepStart, sampleTime};
 ghost use Rattle.graph_traj_parts.specs.Trajectory.{trajectory, AcceptedAdjointTrajectory};
-ghost use Rattle.magnus_graph_traj_run.specs.RunSteps.{segmentSteps, adjointCourse};
+ghost use Rattle.magnus_graph_traj_steps.specs.RunSteps.{segmentSteps, adjointCourse};
 ghost use Rattle.varcoef_magnus_graph_traj_step.specs.StepTaken.{StepTaken, stepImage};
-ghost use Rattle.varcoef_magnus_graph_adjoint_run.specs.StepsTaken.{StepsTaken};
-ghost use Rattle.varcoef_magnus_graph_adjoint_run.specs.StepsTaken.{sampledStepFault, sampledStepImage};
-ghost use Rattle.varcoef_magnus_graph_adjoint_run.specs.WeightedRunSteps.{weightedRunStepFault, weightedRunStepImage};
+ghost use Rattle.magnus_graph_traj_steps.specs.StepsTaken.{StepsTaken};
+ghost use Rattle.varcoef_magnus_graph_traj_steps.specs.SampledSteps.{sampledStepFault, sampledStepImage};
+ghost use Rattle.varcoef_magnus_graph_traj_steps.specs.WeightedRunSteps.{weightedRunStepFault, weightedRunStepImage};
 use error::Checked;
 use graph_traj_segment::kernel::Segment;
 use varcoef_magnus_graph::SQRT3_OVER_12_F64;

@@ -20,7 +20,7 @@ use Rattle.magnus_graph.specs.StepOutcome.{adjoint}
 use Rattle.graph_traj_parts.specs.Trajectory.{Trajectory, trajectory}
 use Rattle.graph_traj_adjoint_checks.specs.AcceptedAdjointRun.{AcceptedWeightedAdjointRun}
 use Rattle.graph_traj_adjoint_checks.proofs.AdjointRunSound.{weighted-adjoint-run-accepted}
-use Rattle.magnus_graph_traj_run.specs.RunSteps.{segmentSteps, adjointCourse}
+use Rattle.magnus_graph_traj_steps.specs.RunSteps.{segmentSteps, adjointCourse}
 use Rattle.varcoef_magnus_graph_adjoint.specs.WeightedRunOutcome.{Run, weightedAdjointRun}
 use Rattle.varcoef_magnus_graph_adjoint.proofs.StepPlain.{step-plain}
 use Rattle.varcoef_magnus_graph_adjoint.proofs.RunOutcome.{run-refused, run-copied, run-stopped, run-done}
@@ -163,7 +163,7 @@ clear-requires c κs =
     let start = made .before .before .before .before .before .before .before .before .before .before .before .before in
     let some : 0 < start .args .steps = omega (arith, left .if1 .left) in
     let ok = accepted-run start (made .check-weighted-adjoint-run .ensures) (told .enum-told .given .1) in
-    omega (arith, ok .room some, loaded .load .kept .0, taken .run-steps .ensures .kept .length-kept)
+    omega (arith, ok .room some, loaded .load .kept .0, taken .run-steps .ensures .length-kept)
 
 same-length-2 : tie.Need-same-length-2
 same-length-2 c = search needs
@@ -203,7 +203,7 @@ store-requires-2 c κs =
     let start = made .before .before .before .before .before .before .before .before .before .before .before .before in
     let some : 0 < start .args .steps = omega (arith, left .if1 .left) in
     let ok = accepted-run start (made .check-weighted-adjoint-run .ensures) (told .enum-told .given .1) in
-    omega (arith, ok .signals .output-length, ok .room some, loaded .load .kept .0, taken .run-steps .ensures .kept .length-kept)
+    omega (arith, ok .signals .output-length, ok .room some, loaded .load .kept .0, taken .run-steps .ensures .length-kept)
 
 clear-requires-2 : tie.Need-clear-requires-2
 clear-requires-2 c κs =
@@ -215,7 +215,7 @@ clear-requires-2 c κs =
     let start = made .before .before .before .before .before .before .before .before .before .before .before .before in
     let some : 0 < start .args .steps = omega (arith, left .if1 .left) in
     let ok = accepted-run start (made .check-weighted-adjoint-run .ensures) (told .enum-told .given .1) in
-    omega (arith, ok .room some, loaded .load .kept .0, taken .run-steps .ensures .kept .length-kept)
+    omega (arith, ok .room some, loaded .load .kept .0, taken .run-steps .ensures .length-kept)
 
 same-length-3 : tie.Need-same-length-3
 same-length-3 c = search needs

@@ -3,9 +3,10 @@ use Prim.Native.Nat.{_-_}
 use native.Mathlib.Omega.{arith}
 use Rattle.magnus_graph.specs.StepOutcome.{forward}
 use Rattle.graph_traj_parts.specs.Trajectory.{trajectory}
-use Rattle.magnus_graph_traj_run.specs.RunSteps.{segmentSteps, allSteps, forwardCourse}
-use Rattle.magnus_graph_traj_run.proofs.StepsTaken.{all-grow}
-use Rattle.magnus_graph_traj_run.proofs.Walk.{Walked, no-segments, walk-begins, walk-ends, walk-on, walk-stops}
+use Rattle.graph_traj_faults.specs.RunChecks.{runNeed}
+use Rattle.magnus_graph_traj_steps.specs.RunSteps.{segmentSteps, allSteps, forwardCourse, runStepFault, runStepImage}
+use Rattle.magnus_graph_traj_steps.proofs.Courses.{no-segments, all-grow}
+use Rattle.magnus_graph_traj_steps.proofs.Walk.{Walked, walk-begins, walk-ends, walk-on, walk-stops}
 use borrow.Author.Needs.{needs}
 use Rattle.magnus_graph_traj_run.proofs.kernel.run_all_segments.Statement.{statement}
 use Rattle.magnus_graph_traj_run.proofs.kernel.run_all_segments.Tie as tie
@@ -13,7 +14,8 @@ use Rattle.magnus_graph_traj_run.proofs.kernel.run_all_segments.Tie as 
 abbrev Inv-loop : tie.InvT-loop
 Inv-loop n row-ptr col-idx segments breakpoints starts ends laws steps work₀ i₀ work i =
     let t = trajectory n row-ptr col-idx segments breakpoints starts ends laws in
-    Walked t (forwardCourse breakpoints segments steps) forward (allSteps steps) segments i work₀ work
+    let course = forwardCourse breakpoints segments steps in
+    Walked (runStepFault t course) (runStepImage t course forward) n (runNeed t) (allSteps steps) segments i work₀ work
 
 abbrev μ-loop : tie.MeasureT-loop
 μ-loop n row-ptr col-idx segments breakpoints starts ends laws steps work₀ i₀ work i =

@@ -1,7 +1,7 @@
 -- `step_at` meets its contract: its samples lie where the segment says, and what the kernel asks holds of an accepted trajectory.
 -- Assumes nothing.
 use Rattle.graph_traj_parts.specs.Trajectory.{Trajectory, trajectory}
-use Rattle.magnus_graph_traj_run.proofs.Walk.{few-segments, law-given, law-known, lists-given, step-at}
+use Rattle.magnus_graph_traj_run.proofs.StepAt.{few-segments, law-given, law-known, lists-given, step-at}
 use borrow.Author.Needs.{needs}
 use Rattle.magnus_graph_traj_run.proofs.kernel.step_at.Statement.{statement}
 use Rattle.magnus_graph_traj_run.proofs.kernel.step_at.Tie as tie

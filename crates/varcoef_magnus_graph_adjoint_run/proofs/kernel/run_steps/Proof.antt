@@ -5,8 +5,8 @@ use Prim.Native.Nat.{ℕ, _≤_}
 use native.Mathlib.Omega.{arith}
 use lib.ListN.{length, getD}
 use Rattle.graph_traj_parts.specs.Trajectory.{Trajectory, trajectory}
-use Rattle.varcoef_magnus_graph_adjoint_run.proofs.ByLaw.{taken-0, taken-1, taken-2, starts-size, ends-size, law-there, law-known}
-use Rattle.varcoef_magnus_graph_adjoint_run.proofs.ByLaw.{breakpoints-there}
+use Rattle.varcoef_magnus_graph_traj_steps.proofs.ByLaw.{taken-0, taken-1, taken-2, starts-size, ends-size, law-there, law-known}
+use Rattle.varcoef_magnus_graph_traj_steps.proofs.ByLaw.{breakpoints-there}
 use borrow.Author.Needs.{needs}
 use Rattle.varcoef_magnus_graph_adjoint_run.proofs.kernel.run_steps.Statement.{statement}
 use Rattle.varcoef_magnus_graph_adjoint_run.proofs.kernel.run_steps.Tie as tie

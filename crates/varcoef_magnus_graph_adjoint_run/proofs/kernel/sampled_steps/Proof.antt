@@ -1,18 +1,21 @@
 -- `sampled_steps` meets its contract: each turn takes the next step of the segment, whose value counts them. Assumes nothing.
+use mathlib.Core.Path.{ap}
 use Prim.Native.Nat.{_+_, _*_, _-_}
 use native.Mathlib.Omega.{arith}
 use lib.ListN.{length}
-use Rattle.varcoef_magnus_graph_adjoint_run.specs.StepsTaken.{sampledStepFault, sampledStepImage}
-use Rattle.varcoef_magnus_graph_adjoint_run.proofs.Walk.{Walked, walk-begins, step-number, walk-ends, walk-on, walk-stops, sampled-one}
+use Rattle.varcoef_magnus_graph_traj_steps.specs.SampledSteps.{sampledStepFault, sampledStepImage}
+use Rattle.magnus_graph_traj_steps.proofs.Courses.{segmentBefore}
+use Rattle.magnus_graph_traj_steps.proofs.Walk.{StepsWalked, steps-begin, steps-end, steps-on, steps-stop}
+use Rattle.varcoef_magnus_graph_adjoint_run.proofs.Walk.{sampled-one}
 use borrow.Author.Needs.{needs}
 use Rattle.varcoef_magnus_graph_adjoint_run.proofs.kernel.sampled_steps.Statement.{statement}
 use Rattle.varcoef_magnus_graph_adjoint_run.proofs.kernel.sampled_steps.Tie as tie
 
 abbrev Inv-loop : tie.InvT-loop
 Inv-loop row-ptr col-idx starts ends a-starts a-ends n steps work₀ first counter₀ work segment counter =
-    Walked (sampledStepFault n row-ptr col-idx starts ends a-starts a-ends (first .start) (first .end) (first .tau) steps)
+    StepsWalked (sampledStepFault n row-ptr col-idx starts ends a-starts a-ends (first .start) (first .end) (first .tau) steps)
     (sampledStepImage n row-ptr col-idx starts ends a-starts a-ends (first .start) (first .end) (first .tau) steps)
-    n (11 * n + 2 * length col-idx) first steps counter work₀ work segment
+    n (11 * n + 2 * length col-idx) first 0 steps counter work₀ work segment
 
 abbrev μ-loop : tie.MeasureT-loop
 μ-loop row-ptr col-idx starts ends a-starts a-ends n steps work₀ first counter₀ work segment counter = steps - counter
@@ -20,7 +23,7 @@ abbrev μ-loop : tie.MeasureT-loop
 loop-holds : tie.Need-loop-holds Inv-loop μ-loop
 loop-holds c =
     let start = c .before .before .before .before .before .before .before in
-    walk-begins _ _ (start .pre .1 .1 .1 .1 .0)
+    steps-begin _ _ (ap (segmentBefore (start .args .first)) (start .pre .1 .1 .1 .1 .0))
 
 sampled-step-at-requires : tie.Need-sampled-step-at-requires Inv-loop μ-loop
 sampled-step-at-requires c κs =
@@ -35,8 +38,8 @@ sampled-step-at-requires c κs =
         (
           start .pre .1 .1 .0,
           (
-            omega (arith, pre .0, walked .taken .kept .length-kept),
-            (omega (arith, step-number walked, test .loop-test .taken), pre .1 .1),
+            omega (arith, pre .0, walked .walked .taken .length-kept),
+            (omega (arith, walked .number, test .loop-test .taken), pre .1 .1),
           ),
         ),
       ),
@@ -52,7 +55,7 @@ same-length : tie.Need-same-length Inv-loop μ-loop
 same-length c =
     let taken = c .before .before .before .before in
     let head = taken .before .before .before in
-    omega (arith, taken .sampled-step-at .ensures .kept .length-kept, head .loop .inv .taken .kept .length-kept)
+    omega (arith, taken .sampled-step-at .ensures .kept .length-kept, head .loop .inv .walked .taken .length-kept)
 
 returns : tie.Need-returns Inv-loop μ-loop
 returns c =
@@ -62,7 +65,7 @@ returns c =
     let start = head .before .before .before .before .before .before .before .before in
     let args = start .args in
     let walked = head .loop .inv in
-    walk-stops walked (test .loop-test .taken)
+    steps-stop walked (test .loop-test .taken)
     (sampled-one (args .n) (args .row-ptr .now) (args .col-idx .now) (args .starts .now) (args .ends .now) (args .a-starts .now)
     (args .a-ends .now) (args .first) (args .steps) _ _ (walked .here) (taken .sampled-step-at .ensures))
     (c .enum-told2 .given .1)
@@ -71,7 +74,7 @@ next-requires : tie.Need-next-requires Inv-loop μ-loop
 next-requires c κs =
     let head = c .before .before .before .before .before .before .before in
     let start = head .before .before .before .before .before .before .before .before in
-    omega (arith, step-number (head .loop .inv), head .loop .inv .within, start .pre .1 .1 .1 .1)
+    omega (arith, head .loop .inv .number, head .loop .inv .walked .within, start .pre .1 .1 .1 .1)
 
 add-counter : tie.Need-add-counter Inv-loop μ-loop
 add-counter c =
@@ -93,20 +96,20 @@ loop-again c =
     let start = head .before .before .before .before .before .before .before .before in
     let args = start .args in
     let walked = head .loop .inv in
-    walk-on walked (test .loop-test .taken)
+    steps-on walked (test .loop-test .taken)
     (sampled-one (args .n) (args .row-ptr .now) (args .col-idx .now) (args .starts .now) (args .ends .now) (args .a-starts .now)
     (args .a-ends .now) (args .first) (args .steps) _ _ (walked .here) (taken .sampled-step-at .ensures))
-    (told .enum-told .given .1) (c .next .ensures)
+    (c .next .ensures) (told .enum-told .given .1)
 
 same-length-2 : tie.Need-same-length-2 Inv-loop μ-loop
 same-length-2 c =
     let head = c .before in
-    omega (arith, head .loop .inv .taken .kept .length-kept)
+    omega (arith, head .loop .inv .walked .taken .length-kept)
 
 returns-2 : tie.Need-returns-2 Inv-loop μ-loop
 returns-2 c =
     let head = c .before in
-    walk-ends (head .loop .inv) (c .loop-test .left)
+    steps-end (head .loop .inv) (c .loop-test .left)
 
 pub sampled-steps-spec : {M : Type 1} → statement M
 sampled-steps-spec =

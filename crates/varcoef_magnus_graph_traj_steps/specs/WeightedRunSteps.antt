@@ -1,6 +1,6 @@
 -- The steps of a weighted run along a trajectory (01, parts 7, 8 and 10; "Added by design"). The weights of the nodes, a start list and an
 -- end list, follow the law of the values, at the same times. Which steps there are and where their samples lie is said for all runs in
--- the crate magnus_graph_traj_run. Assumes nothing.
+-- the crate magnus_graph_traj_steps. Assumes nothing.
 use mathlib.Core.List.{List, map}
 use lib.ListN.{getD}
 use lib.Ieee.{Float, binary64}
@@ -15,7 +15,7 @@ use Rattle.varcoef_magnus_graph.specs.WeightedOmega4.{sqrt3Over12}
 use Rattle.graph_traj_segment.specs.Laws.{valuesAt}
 use Rattle.graph_traj_segment.specs.Times.{c1, c2}
 use Rattle.graph_traj_parts.specs.Trajectory.{Trajectory}
-use Rattle.magnus_graph_traj_run.specs.RunSteps.{RunStep, Course, fractionAt, product, runStepFault}
+use Rattle.magnus_graph_traj_steps.specs.RunSteps.{RunStep, Course, fractionAt, product, runStepFault}
 
 module _ (t : Trajectory) (startWeights endWeights : List Float) (course : Course) where
   -- the weights at the Gauss node c of a step, by the law of its segment

@@ -27,9 +27,13 @@ pub record RunStep : Type 0 where
   pub segment : ℕ
   pub number : ℕ
 
+-- step j of segment i
+abbrev pub stepIn : ℕ → ℕ → RunStep
+stepIn i j = record { segment = i; number = j }
+
 -- the first so many steps of segment i
 abbrev pub segmentSteps : ℕ → ℕ → List RunStep
-segmentSteps i steps = tabulate (λ j. record { segment = i; number = j }) steps
+segmentSteps i steps = tabulate (stepIn i) steps
 
 -- all steps of the first so many segments, segment by segment
 unfoldable pub allSteps : ℕ → ℕ → List RunStep

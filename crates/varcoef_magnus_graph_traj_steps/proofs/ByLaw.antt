@@ -22,11 +22,12 @@ use Rattle.graph_traj_breakpoints.specs.Breakpoints.{breakpoint}
 use Rattle.graph_traj_segment.specs.Times.{c1, c2}
 use Rattle.graph_traj_parts.specs.Trajectory.{Trajectory, AcceptedAdjointTrajectory}
 use Rattle.graph_traj_samples.specs.Sampled.{sampledFault}
-use Rattle.magnus_graph_traj_run.specs.RunSteps.{RunStep, adjointCourse, segmentSteps, sampleAt, fractionAt, runStepFault}
-use Rattle.varcoef_magnus_graph_adjoint_run.specs.WeightedRunSteps.{weightsAt, weightedRunStepFault, weightedRunStepImage}
+use Rattle.magnus_graph_traj_steps.specs.RunSteps.{RunStep, stepIn, adjointCourse, segmentSteps, sampleAt, fractionAt, runStepFault}
+use Rattle.varcoef_magnus_graph_traj_steps.specs.WeightedRunSteps.{weightsAt, weightedRunStepFault, weightedRunStepImage}
 use Rattle.varcoef_magnus_graph_traj_step.specs.StepTaken.{stepImage}
-use Rattle.varcoef_magnus_graph_adjoint_run.specs.StepsTaken.{StepsTaken, sampledStepFault, sampledStepImage}
-use Rattle.varcoef_magnus_graph_adjoint_run.proofs.Walk.{stepOf, same-taken}
+use Rattle.varcoef_magnus_graph_traj_steps.specs.SampledSteps.{sampledStepFault, sampledStepImage}
+use Rattle.magnus_graph_traj_steps.specs.StepsTaken.{StepsTaken}
+use Rattle.magnus_graph_traj_steps.proofs.StepsTaken.{same-taken}
 
 -- the one segment's list is the whole pool
 whole-pool : (m : ℕ) (pool : List Float) → length pool ≡ m → part (0 * m) m pool ≡ pool
@@ -56,10 +57,10 @@ module _ (t : Trajectory) (startWeights endWeights : List Float) (τ : Float) (s
 
   module _ (law : getD (t .laws) 0 0 ≡ 2) where
     abbrev f : ℕ → Float → Float
-    f j c = fractionAt t (adjointCourse τ steps) (stepOf j) c
+    f j c = fractionAt t (adjointCourse τ steps) (stepIn 0 j) c
 
     values-2 : (j : ℕ) (c : Float)
-        → lawValues (length (t .starts)) (f j c) (t .starts) (t .ends) ≡ sampleAt t (adjointCourse τ steps) (stepOf j) c
+        → lawValues (length (t .starts)) (f j c) (t .starts) (t .ends) ≡ sampleAt t (adjointCourse τ steps) (stepIn 0 j) c
     unfolding sampleAt valuesAt byLaw
     values-2 j c =
         let s = whole-pool m (t .starts) size-starts in
@@ -70,7 +71,7 @@ module _ (t : Trajectory) (startWeights endWeights : List Float) (τ : Float) (s
 
     weights-2 : (j : ℕ) (c : Float)
         → lawValues (length startWeights) (f j c) startWeights endWeights
-        ≡ weightsAt t startWeights endWeights (adjointCourse τ steps) (stepOf j) c
+        ≡ weightsAt t startWeights endWeights (adjointCourse τ steps) (stepIn 0 j) c
     unfolding weightsAt valuesAt byLaw
     weights-2 j c =
         sym (ap (λ (k : ℕ). byLaw k startWeights endWeights (lawValues (t .nodes) (f j c) startWeights endWeights)) law
@@ -85,7 +86,7 @@ module _ (t : Trajectory) (startWeights endWeights : List Float) (τ : Float) (s
         → Taken answer w w′
     unfolding weightedRunStepFault runStepFault
     taken-2 =
-        same-taken _ fault _ image
+        same-taken 0 _ fault _ image
         (λ j i. next (next (sampledFault (values-2 j c1 i)) (sampledFault (values-2 j c2 i))) (weightFault (weights-2 j c1 i) (weights-2 j c2 i)))
         (λ j i. stepImage (t .nodes) (t .rowStarts) (t .cols) τ (values-2 j c1 i) (values-2 j c2 i) (weights-2 j c1 i) (weights-2 j c2 i))
         steps
@@ -93,8 +94,8 @@ module _ (t : Trajectory) (startWeights endWeights : List Float) (τ : Float) (s
   -- ---- laws 0 and 1: x and a are the lists that the law names
 
   module _ (x a : List Float)
-      (values : (j : ℕ) (c : Float) → sampleAt t (adjointCourse τ steps) (stepOf j) c ≡ x)
-      (weights : (j : ℕ) (c : Float) → weightsAt t startWeights endWeights (adjointCourse τ steps) (stepOf j) c ≡ a)
+      (values : (j : ℕ) (c : Float) → sampleAt t (adjointCourse τ steps) (stepIn 0 j) c ≡ x)
+      (weights : (j : ℕ) (c : Float) → weightsAt t startWeights endWeights (adjointCourse τ steps) (stepIn 0 j) c ≡ a)
       (accepted : sampledFault x ≡ Accepted) where
     pub taken-constant : {answer : Checked} {w w′ : List Float}
         → StepsTaken (λ (s : RunStep). weightFault a a) (λ (s : RunStep). stepImage (t .nodes) (t .rowStarts) (t .cols) τ x x a a)
@@ -102,7 +103,7 @@ module _ (t : Trajectory) (startWeights endWeights : List Float) (τ : Float) (s
         → Taken answer w w′
     unfolding weightedRunStepFault runStepFault next
     taken-constant =
-        same-taken _ fault _ image
+        same-taken 0 _ fault _ image
         (λ j. sym ((λ i. next (next (sampledFault (values j c1 i)) (sampledFault (values j c2 i))) (weightFault (weights j c1 i) (weights j c2 i)))
         ∙ (λ i. next (next (accepted i) (accepted i)) (weightFault a a))))
         (λ j. sym (λ i. stepImage (t .nodes) (t .rowStarts) (t .cols) τ (values j c1 i) (values j c2 i) (weights j c1 i) (weights j c2 i)))
@@ -119,10 +120,10 @@ module _ (t : Trajectory) (startWeights endWeights : List Float) (τ : Float) (s
   taken-0 law all-finite =
       taken-constant (t .starts) startWeights
       (λ j c. ap (λ (k : ℕ). byLaw k (part (0 * m) m (t .starts)) (part (0 * m) m (t .ends))
-      (lawValues m (fractionAt t (adjointCourse τ steps) (stepOf j) c) (part (0 * m) m (t .starts)) (part (0 * m) m (t .ends)))) law
+      (lawValues m (fractionAt t (adjointCourse τ steps) (stepIn 0 j) c) (part (0 * m) m (t .starts)) (part (0 * m) m (t .ends)))) law
       ∙ whole-pool m (t .starts) size-starts)
       (λ j c. ap (λ (k : ℕ). byLaw k startWeights endWeights
-      (lawValues (t .nodes) (fractionAt t (adjointCourse τ steps) (stepOf j) c) startWeights endWeights)) law)
+      (lawValues (t .nodes) (fractionAt t (adjointCourse τ steps) (stepIn 0 j) c) startWeights endWeights)) law)
       (finite-accepted (t .starts) all-finite)
 
   pub taken-1 : {answer : Checked} {w w′ : List Float}
@@ -136,10 +137,10 @@ module _ (t : Trajectory) (startWeights endWeights : List Float) (τ : Float) (s
   taken-1 law all-finite =
       taken-constant (t .ends) endWeights
       (λ j c. ap (λ (k : ℕ). byLaw k (part (0 * m) m (t .starts)) (part (0 * m) m (t .ends))
-      (lawValues m (fractionAt t (adjointCourse τ steps) (stepOf j) c) (part (0 * m) m (t .starts)) (part (0 * m) m (t .ends)))) law
+      (lawValues m (fractionAt t (adjointCourse τ steps) (stepIn 0 j) c) (part (0 * m) m (t .starts)) (part (0 * m) m (t .ends)))) law
       ∙ whole-pool m (t .ends) size-ends)
       (λ j c. ap (λ (k : ℕ). byLaw k startWeights endWeights
-      (lawValues (t .nodes) (fractionAt t (adjointCourse τ steps) (stepOf j) c) startWeights endWeights)) law)
+      (lawValues (t .nodes) (fractionAt t (adjointCourse τ steps) (stepIn 0 j) c) startWeights endWeights)) law)
       (finite-accepted (t .ends) all-finite)
 
 -- ---- what the run's trajectory has

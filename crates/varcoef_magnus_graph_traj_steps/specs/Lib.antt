@@ -1,2 +1,2 @@
+pub mod SampledSteps
 pub mod WeightedRunSteps
-pub mod StepsTaken

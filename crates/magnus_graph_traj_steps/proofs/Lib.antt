@@ -1,0 +1,3 @@
+pub mod Courses
+pub mod StepsTaken
+pub mod Walk
