@@ -9,22 +9,22 @@ use varcoef_magnus_graph_adjoint::evolve_state_adjoint_into;
 
 // The adjoint run with node weights.
 #[no_mangle]
-pub extern "C" fn fuistelo_varcoef_evolve_state_adjoint_into(
+pub extern "C" fn fuistelo_varcoef_evolve_state_adjoint_into<'a>(
     n: usize,
     row_ptr: &[usize],
     col_idx: &[u32],
     segments: usize,
     breakpoints: &[f64],
-    starts: &[f64],
-    ends: &[f64],
+    starts: &'a [f64],
+    ends: &'a [f64],
     laws: &[u8],
     tau: f64,
     steps: usize,
     rho_bar_max: f64,
     a_sup_max: f64,
     convergence_radius_check: bool,
-    a_starts: &[f64],
-    a_ends: &[f64],
+    a_starts: &'a [f64],
+    a_ends: &'a [f64],
     src: &[f64],
     dst: &mut [f64],
     work: &mut [f64],

@@ -12,22 +12,22 @@ use varcoef_magnus_graph_adjoint_run::kernel::run_steps;
 // weights a_starts and a_ends follow the law of the values. Refused before the first step by rows 6, 1 to 4, 13, 14, 15, 17, 19, 5, 9, 12,
 // 16, 7, 8 and 10: every slice is as it was. Refused by row 20 or 11 in a step, dst is as it was. Once there was a step, the first
 // 11n + 2m elements of work become +0. No steps copy src, and leave work as it was.
-pub fn evolve_state_adjoint_into(
+pub fn evolve_state_adjoint_into<'a>(
     n: usize,
     row_ptr: &[usize],
     col_idx: &[u32],
     segments: usize,
     breakpoints: &[f64],
-    starts: &[f64],
-    ends: &[f64],
+    starts: &'a [f64],
+    ends: &'a [f64],
     laws: &[u8],
     tau: f64,
     steps: usize,
     rho_bar_max: f64,
     a_sup_max: f64,
     convergence_radius_check: bool,
-    a_starts: &[f64],
-    a_ends: &[f64],
+    a_starts: &'a [f64],
+    a_ends: &'a [f64],
     src: &[f64],
     dst: &mut [f64],
     work: &mut [f64],

@@ -16,6 +16,7 @@ ghost use Rattle.varcoef_magnus_graph_traj_steps.specs.SampledSteps.{sampledSte
 ghost use Rattle.varcoef_magnus_graph_traj_steps.specs.WeightedRunSteps.{weightedRunStepFault, weightedRunStepImage};
 use error::Checked;
 use graph_traj_segment::kernel::Segment;
+use graph_traj_segment::kernel::law_list;
 use varcoef_magnus_graph::SQRT3_OVER_12_F64;
 use varcoef_magnus_graph_checks::check_sample_weights;
 use varcoef_magnus_graph_products::kernel::load_roots;
@@ -157,19 +158,19 @@ fn constant_steps(
 }
 
 // All steps of the run, by the law of its segment.
-pub fn run_steps(
+pub fn run_steps<'a>(
     n: usize,
     row_ptr: &[usize],
     col_idx: &[u32],
     segments: usize,
     breakpoints: &[f64],
-    starts: &[f64],
-    ends: &[f64],
+    starts: &'a [f64],
+    ends: &'a [f64],
     laws: &[u8],
     tau: f64,
     steps: usize,
-    a_starts: &[f64],
-    a_ends: &[f64],
+    a_starts: &'a [f64],
+    a_ends: &'a [f64],
     work: &mut [f64],
 ) -> Checked
     requires { ⌜ AcceptedAdjointTrajectory (trajectory n (now «row_ptr») (now «col_idx») segments (now breakpoints)
@@ -199,8 +200,7 @@ pub fn run_steps(
             work,
         );
     }
-    if law == 1 {
-        return constant_steps(row_ptr, col_idx, ends, a_ends, n, tau, steps, work);
-    }
-    constant_steps(row_ptr, col_idx, starts, a_starts, n, tau, steps, work)
+    let vals = law_list(law, starts, ends, 0, col_idx.len());
+    let a = law_list(law, a_starts, a_ends, 0, n);
+    constant_steps(row_ptr, col_idx, vals, a, n, tau, steps, work)
 }

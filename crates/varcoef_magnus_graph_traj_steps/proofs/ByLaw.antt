@@ -1,11 +1,12 @@
 -- The steps of the run, by the law of its one segment: under law 2 the samples are those of law 2, and under laws 0 and 1 both samples
 -- are the list that the law names, which row 20 does not refuse, since it is finite. Assumes nothing.
 use mathlib.Core.Path.{_≡_, refl, sym, ap, _∙_}
-use mathlib.Core.Bool.{true, not}
+use mathlib.Core.Bool.{Bool, true, false, not, cond}
 use mathlib.Core.List.{List}
 use Prim.Native.Nat.{ℕ, _*_, _≤_, _<_}
 use native.Mathlib.Nat.{zero-mul}
 use native.Mathlib.Omega.{arith}
+use lib.Dec.{eqb}
 use lib.ListN.{length, getD}
 use lib.Ieee.{Float, nan}
 use lib.Ieee.Scale.{finite}
@@ -17,7 +18,8 @@ use Rattle.error.specs.declared.Checked.the-variants.{Accepted}
 use Rattle.graph_shape.proofs.First.{accepts-none}
 use Rattle.magnus_graph.specs.StepOutcome.{adjoint}
 use Rattle.varcoef_magnus_graph_checks.specs.WeightedStepChecks.{weightFault}
-use Rattle.graph_traj_segment.specs.Laws.{lawValues, byLaw, valuesAt}
+use Rattle.graph_traj_segment.specs.Laws.{lawValues, byLaw, valuesAt, lawList}
+use Rattle.graph_traj_segment.proofs.Laws.{law-values}
 use Rattle.graph_traj_breakpoints.specs.Breakpoints.{breakpoint}
 use Rattle.graph_traj_segment.specs.Times.{c1, c2}
 use Rattle.graph_traj_parts.specs.Trajectory.{Trajectory, AcceptedAdjointTrajectory}
@@ -37,6 +39,11 @@ whole-pool m pool size = ap (λ (k : ℕ). part k m pool) (zero-mul m) ∙ ap (�
 finite-accepted : (x : List Float) → ((k : ℕ) → k < length x → finite (getD x k nan) ≡ true) → sampledFault x ≡ Accepted
 unfolding sampledFault
 finite-accepted x all-finite = sym (accepts-none _ _ _ (λ k h. ap not (all-finite k h)))
+
+-- nor of one of two lists of which it refuses nothing
+one-accepted : (b : Bool) (x y : List Float) → sampledFault x ≡ Accepted → sampledFault y ≡ Accepted → sampledFault (cond b x y) ≡ Accepted
+one-accepted true x y p q = p
+one-accepted false x y p q = q
 
 module _ (t : Trajectory) (startWeights endWeights : List Float) (τ : Float) (steps : ℕ)
     (size-starts : length (t .starts) ≡ length (t .cols)) (size-ends : length (t .ends) ≡ length (t .cols))
@@ -109,39 +116,31 @@ module _ (t : Trajectory) (startWeights endWeights : List Float) (τ : Float) (s
         (λ j. sym (λ i. stepImage (t .nodes) (t .rowStarts) (t .cols) τ (values j c1 i) (values j c2 i) (weights j c1 i) (weights j c2 i)))
         steps
 
-  pub taken-0 : {answer : Checked} {w w′ : List Float}
-      → getD (t .laws) 0 0 ≡ 0
+  -- the law is 0 or 1
+  pub taken-listed : length endWeights ≡ t .nodes
+      → getD (t .laws) 0 0 ≤ 1
       → ((k : ℕ) → k < length (t .starts) → finite (getD (t .starts) k nan) ≡ true)
-      → StepsTaken (λ (s : RunStep). weightFault startWeights startWeights)
-      (λ (s : RunStep). stepImage (t .nodes) (t .rowStarts) (t .cols) τ (t .starts) (t .starts) startWeights startWeights)
-      (t .nodes) need (segmentSteps 0 steps) answer w w′
-      → Taken answer w w′
-  unfolding sampleAt weightsAt valuesAt byLaw
-  taken-0 law all-finite =
-      taken-constant (t .starts) startWeights
-      (λ j c. ap (λ (k : ℕ). byLaw k (part (0 * m) m (t .starts)) (part (0 * m) m (t .ends))
-      (lawValues m (fractionAt t (adjointCourse τ steps) (stepIn 0 j) c) (part (0 * m) m (t .starts)) (part (0 * m) m (t .ends)))) law
-      ∙ whole-pool m (t .starts) size-starts)
-      (λ j c. ap (λ (k : ℕ). byLaw k startWeights endWeights
-      (lawValues (t .nodes) (fractionAt t (adjointCourse τ steps) (stepIn 0 j) c) startWeights endWeights)) law)
-      (finite-accepted (t .starts) all-finite)
-
-  pub taken-1 : {answer : Checked} {w w′ : List Float}
-      → getD (t .laws) 0 0 ≡ 1
       → ((k : ℕ) → k < length (t .ends) → finite (getD (t .ends) k nan) ≡ true)
-      → StepsTaken (λ (s : RunStep). weightFault endWeights endWeights)
-      (λ (s : RunStep). stepImage (t .nodes) (t .rowStarts) (t .cols) τ (t .ends) (t .ends) endWeights endWeights)
+      → {x a : List Float}
+      → x ≡ lawList (getD (t .laws) 0 0) 0 m (t .starts) (t .ends)
+      → a ≡ lawList (getD (t .laws) 0 0) 0 (t .nodes) startWeights endWeights
+      → {answer : Checked} {w w′ : List Float}
+      → StepsTaken (λ (s : RunStep). weightFault a a) (λ (s : RunStep). stepImage (t .nodes) (t .rowStarts) (t .cols) τ x x a a)
       (t .nodes) need (segmentSteps 0 steps) answer w w′
       → Taken answer w w′
-  unfolding sampleAt weightsAt valuesAt byLaw
-  taken-1 law all-finite =
-      taken-constant (t .ends) endWeights
-      (λ j c. ap (λ (k : ℕ). byLaw k (part (0 * m) m (t .starts)) (part (0 * m) m (t .ends))
-      (lawValues m (fractionAt t (adjointCourse τ steps) (stepIn 0 j) c) (part (0 * m) m (t .starts)) (part (0 * m) m (t .ends)))) law
-      ∙ whole-pool m (t .ends) size-ends)
-      (λ j c. ap (λ (k : ℕ). byLaw k startWeights endWeights
-      (lawValues (t .nodes) (fractionAt t (adjointCourse τ steps) (stepIn 0 j) c) startWeights endWeights)) law)
-      (finite-accepted (t .ends) all-finite)
+  unfolding sampleAt weightsAt lawList
+  taken-listed size-ends-weights constant finite-starts finite-ends {x} {a} values weights =
+      let law = getD (t .laws) 0 0 in
+      let s = whole-pool (t .nodes) startWeights size-weights in
+      let e = whole-pool (t .nodes) endWeights size-ends-weights in
+      let s-accepted = ap sampledFault (whole-pool m (t .starts) size-starts) ∙ finite-accepted (t .starts) finite-starts in
+      let e-accepted = ap sampledFault (whole-pool m (t .ends) size-ends) ∙ finite-accepted (t .ends) finite-ends in
+      taken-constant x a
+      (λ j c. law-values law 0 m (fractionAt t (adjointCourse τ steps) (stepIn 0 j) c) (t .starts) (t .ends) constant ∙ sym values)
+      (λ j c. (λ i. valuesAt law (t .nodes) (fractionAt t (adjointCourse τ steps) (stepIn 0 j) c) (sym s i) (sym e i))
+      ∙ law-values law 0 (t .nodes) (fractionAt t (adjointCourse τ steps) (stepIn 0 j) c) startWeights endWeights constant
+      ∙ sym weights)
+      (ap sampledFault values ∙ one-accepted (eqb law 0) _ _ s-accepted e-accepted)
 
 -- ---- what the run's trajectory has
 
