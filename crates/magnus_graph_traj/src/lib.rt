@@ -4,7 +4,7 @@ ghost use Rattle.magnus_graph_traj_outcome.specs.RunOutcome.{forwardRun, adjoin
 use error::Checked;
 use graph_traj_adjoint_checks::check_adjoint_run;
 use graph_traj_checks::check::check_run;
-use magnus_graph_traj_run::kernel::run_adjoint_steps;
+use magnus_graph_traj_adjoint_run::kernel::run_adjoint_steps;
 use magnus_graph_traj_run::kernel::run_all_segments;
 use scratch::kernel::clear;
 use scratch::kernel::load;

@@ -1,2 +1,2 @@
-// The loops of the unweighted runs along a trajectory (magnus_graph.rs, magnus_graph_adjoint.rs; 01, parts 8 and 10).
+// The loops of the forward run along a trajectory, and the step of the unweighted runs (magnus_graph.rs; 01, parts 8 and 10).
 pub mod kernel;

@@ -6,10 +6,10 @@ use Rattle.magnus_graph.specs.StepOutcome.{adjoint}
 use Rattle.graph_traj_parts.specs.Trajectory.{Trajectory, trajectory}
 use Rattle.magnus_graph_traj_steps.specs.RunSteps.{adjointCourse}
 use Rattle.magnus_graph_traj_steps.proofs.Walk.{steps-begin, steps-end, steps-on, steps-stop}
 use Rattle.magnus_graph_traj_run.proofs.StepAt.{adjoint-step, StepsWalkedAt}
 use borrow.Author.Needs.{needs}
-use Rattle.magnus_graph_traj_run.proofs.kernel.run_adjoint_steps.Statement.{statement}
-use Rattle.magnus_graph_traj_run.proofs.kernel.run_adjoint_steps.Tie as tie
+use Rattle.magnus_graph_traj_adjoint_run.proofs.kernel.run_adjoint_steps.Statement.{statement}
+use Rattle.magnus_graph_traj_adjoint_run.proofs.kernel.run_adjoint_steps.Tie as tie
 
 abbrev Inv-loop : tie.InvT-loop
 Inv-loop n row-ptr col-idx segments breakpoints starts ends laws tau steps work₀ segment₀ counter₀ work segment counter =
