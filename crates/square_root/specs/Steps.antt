@@ -1,10 +1,9 @@
 -- What the steps of the square root promise. Definitions, and what `halfDown` is.
-use mathlib.Core.Path.{_≡_, refl, ap, _∙_}
-use mathlib.Core.Logic.{_⊎_, inl, inr}
-use Prim.Native.Nat.{ℕ, zero, suc, _+_, _-_, _*_, _/_, _%_, _^_, _≤_, _<_}
-use lib.IntN.{ℤ, pos, negsuc, _+ℤ_}
+use mathlib.Core.Path.{_≡_}
 use mathlib.Core.Bool.{not}
+use Prim.Native.Nat.{ℕ, zero, suc, _+_, _-_, _*_, _/_, _%_, _^_, _≤_, _<_}
 use lib.Dec.{T}
+use lib.IntN.{ℤ, pos, negsuc, _+ℤ_}
 use lib.Ieee.{Float, Format, binary64, hid, ofBits, nanBits}
 
 -- half of e, toward minus infinity (01, part 4: an odd negative exponent is halved so)
