@@ -1,7 +1,8 @@
 // For programs in C and Rust: the adjoint run with node weights along a trajectory. Each function makes one call and gives back its
 // answer as a struct; a slice is a pointer and a length to such a program. include/fuistelo.h declares the functions.
 ghost use Rattle.graph_traj_parts.specs.Trajectory.{trajectory};
-ghost use Rattle.varcoef_magnus_graph_adjoint.specs.WeightedRunOutcome.{weightedAdjointRun, Ran};
+ghost use Rattle.magnus_graph_traj_outcome.specs.RunOutcome.{Ran};
+ghost use Rattle.varcoef_magnus_graph_adjoint.specs.WeightedRunOutcome.{weightedAdjointRun};
 ghost use Rattle.answer.specs.Struct.{Tells};
 use answer::Answer;
 use answer::checked;

@@ -13,16 +13,18 @@ use Rattle.arithmetic.specs.Vector.{tabulate}
 use Rattle.error.specs.declared.Checked.{Checked}
 use Rattle.error.specs.declared.Checked.the-variants.{Accepted}
 use Rattle.magnus.specs.Agree.{OfFormat}
+use Rattle.magnus_graph.specs.StepOutcome.{forward, adjoint}
 use Rattle.graph_traj_segment.specs.Times.{segmentTau}
 use Rattle.graph_traj_parts.specs.Trajectory.{Trajectory}
 use Rattle.graph_traj_faults.specs.AcceptedRun.{AcceptedRun}
 use Rattle.graph_traj_adjoint_checks.specs.AcceptedAdjointRun.{AcceptedAdjointRun}
 use Rattle.graph_traj_faults.proofs.RunSound.{run-accepted}
 use Rattle.graph_traj_adjoint_checks.proofs.AdjointRunSound.{adjoint-run-accepted}
-use Rattle.magnus_graph_traj_steps.specs.RunSteps.{segmentSteps, allSteps}
+use Rattle.magnus_graph_traj_steps.specs.RunSteps.{segmentSteps, allSteps, forwardCourse, adjointCourse}
 use Rattle.magnus_graph_traj_steps.proofs.Courses.{segment-count}
 use Rattle.magnus_graph_traj_outcome.specs.RunOutcome.{Run, forwardRun, adjointRun}
-use Rattle.magnus_graph_traj_outcome.proofs.RunOutcome.{RunOfFormat, RunLengths}
+use Rattle.magnus_graph_traj_outcome.proofs.RunOutcome.{StepsPlain, RunLengths}
+use Rattle.magnus_graph_traj_outcome.proofs.StepPlain.{steps-plain}
 
 -- ---- how many steps
 
@@ -60,18 +62,20 @@ module _ (a : Lent) {check : Checked} (made : check ≡ forwardOf a .checks) (ac
       AcceptedRun (a .along) (a .steps) (a .bound) (a .checked) (length (a .signal)) (length (a .output)) (length (a .work))
   forward-accepted = run-accepted (a .along) (a .steps) (a .bound) (a .checked) _ _ _ .0 (sym made ∙ accepted)
 
-  pub forward-lengths : RunLengths (forwardOf a)
+  pub forward-lengths : RunLengths (forwardOf a) (a .along .nodes)
   forward-lengths =
       let s = forward-accepted .signals in
-      record { of-signal = s .signal-length; of-output = s .output-length }
+      record { of-signal = s .signal-length; of-output = s .output-length; within = omega arith }
 
   pub forward-some : eqb (length (allSteps (a .steps) (a .along .segments))) 0 ≡ false
   forward-some =
       some-forward (a .steps) (a .along .segments) (forward-accepted .some-steps) (forward-accepted .along .times .some-segments)
 
-pub forward-format : (a : Lent) → OfFormat binary64 (a .along .starts) → OfFormat binary64 (a .along .ends) → RunOfFormat (forwardOf a)
+pub forward-plain : (a : Lent) → OfFormat binary64 (a .along .starts) → OfFormat binary64 (a .along .ends)
+    → StepsPlain (forwardOf a .stepping)
 unfolding segmentTau
-forward-format a p q = record { of-starts = p; of-ends = q; of-tau = λ s. div-fits binary64 _ _ }
+forward-plain a p q =
+    steps-plain (a .along) (forwardCourse (a .along .breakpoints) (a .along .segments) (a .steps)) forward p q (λ s. div-fits binary64 _ _)
 
 -- ---- the adjoint run
 
@@ -80,10 +84,10 @@ module _ (τ : Float) (a : Lent) {check : Checked} (made : check ≡ adjointOf �
       AcceptedAdjointRun (a .along) τ (a .steps) (a .bound) (a .checked) (length (a .signal)) (length (a .output)) (length (a .work))
   adjoint-accepted = adjoint-run-accepted (a .along) τ (a .steps) (a .bound) (a .checked) _ _ _ .0 (sym made ∙ accepted)
 
-  pub adjoint-lengths : RunLengths (adjointOf τ a)
+  pub adjoint-lengths : RunLengths (adjointOf τ a) (a .along .nodes)
   adjoint-lengths =
       let s = adjoint-accepted .signals in
-      record { of-signal = s .signal-length; of-output = s .output-length }
+      record { of-signal = s .signal-length; of-output = s .output-length; within = omega arith }
 
 -- with steps and with none
 pub adjoint-some : (steps : ℕ) → 0 < steps → eqb (length (segmentSteps 0 steps)) 0 ≡ false
@@ -93,9 +97,9 @@ pub adjoint-none : (steps : ℕ) → steps ≡ 0 → segmentSteps 0 steps ≡ []
 unfolding tabulate
 adjoint-none steps e = rw e
 
-pub adjoint-format : (τ : Float) (a : Lent)
+pub adjoint-plain : (τ : Float) (a : Lent)
     → OfFormat binary64 (a .along .starts)
     → OfFormat binary64 (a .along .ends)
     → T (fits binary64 τ)
-    → RunOfFormat (adjointOf τ a)
-adjoint-format τ a p q f = record { of-starts = p; of-ends = q; of-tau = λ s. f }
+    → StepsPlain (adjointOf τ a .stepping)
+adjoint-plain τ a p q f = steps-plain (a .along) (adjointCourse τ (a .steps)) adjoint p q (λ s. f)

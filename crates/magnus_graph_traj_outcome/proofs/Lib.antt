@@ -1,3 +1,4 @@
 pub mod AcceptedRuns
 pub mod RunOutcome
 pub mod SampledFormat
+pub mod StepPlain

@@ -32,7 +32,7 @@ one-of-format true x y p q = p
 one-of-format false x y p q = q
 
 -- the values by a law
-values-of-format : (law m : ℕ) (f : Float) (x y : List Float) → OfFormat binary64 x → OfFormat binary64 y
+pub values-of-format : (law m : ℕ) (f : Float) (x y : List Float) → OfFormat binary64 x → OfFormat binary64 y
     → OfFormat binary64 (valuesAt law m f x y)
 unfolding valuesAt byLaw lawValues lawValue
 values-of-format law m f x y p q =

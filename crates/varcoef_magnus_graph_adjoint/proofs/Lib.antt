@@ -1,3 +1,1 @@
-pub mod SampledFormat
 pub mod StepPlain
-pub mod RunOutcome

@@ -1,6 +1,7 @@
 // The weighted adjoint run along a trajectory (magnus_graph_adjoint.rs; 01, parts 7, 8 and 10).
 ghost use Rattle.graph_traj_parts.specs.Trajectory.{trajectory};
-ghost use Rattle.varcoef_magnus_graph_adjoint.specs.WeightedRunOutcome.{weightedAdjointRun, Ran};
+ghost use Rattle.magnus_graph_traj_outcome.specs.RunOutcome.{Ran};
+ghost use Rattle.varcoef_magnus_graph_adjoint.specs.WeightedRunOutcome.{weightedAdjointRun};
 use error::Checked;
 use graph_traj_adjoint_checks::check_weighted_adjoint_run;
 use scratch::kernel::clear;

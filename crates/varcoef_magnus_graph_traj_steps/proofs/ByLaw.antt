@@ -1,6 +1,6 @@
 -- The steps of the run, by the law of its one segment: under law 2 the samples are those of law 2, and under laws 0 and 1 both samples
 -- are the list that the law names, which row 20 does not refuse, since it is finite. Assumes nothing.
-use mathlib.Core.Path.{_≡_, refl, sym, ap, _∙_}
+use mathlib.Core.Path.{_≡_, sym, ap, _∙_}
 use mathlib.Core.Bool.{Bool, true, false, not, cond}
 use mathlib.Core.List.{List}
 use Prim.Native.Nat.{ℕ, _*_, _≤_, _<_}

@@ -10,7 +10,7 @@ use native.Mathlib.Omega.{arith}
 use Rattle.graph_traj_parts.specs.Trajectory.{trajectory}
 use Rattle.magnus_graph_traj_outcome.proofs.RunOutcome.{run-refused, run-copied, run-stopped, run-done}
 use Rattle.magnus_graph_traj_outcome.proofs.AcceptedRuns.{Lent, adjointOf, adjoint-accepted, adjoint-lengths, adjoint-some}
-use Rattle.magnus_graph_traj_outcome.proofs.AcceptedRuns.{adjoint-none, adjoint-format}
+use Rattle.magnus_graph_traj_outcome.proofs.AcceptedRuns.{adjoint-none, adjoint-plain}
 use borrow.Author.Needs.{needs}
 use Rattle.magnus_graph_traj.proofs.evolve_state_adjoint_into.Statement.{statement}
 use Rattle.magnus_graph_traj.proofs.evolve_state_adjoint_into.Tie as tie
@@ -68,10 +68,10 @@ returns-2 c =
     let start = starts .before .before .before .before in
     let check = made .check-adjoint-run .ensures in
     let yes = told .enum-told .given .1 in
-    let format = adjoint-format (start .args .tau) (lent start) (starts .shared-slice-known4 .given) (ends .shared-slice-known5 .given)
+    let plain = adjoint-plain (start .args .tau) (lent start) (starts .shared-slice-known4 .given) (ends .shared-slice-known5 .given)
     (subst T (sym (start .good .1 .1 .1 .1 .1 .1 .1 .1 .0 .1)) tt) in
     let lengths = adjoint-lengths (start .args .tau) (lent start) check yes in
-    run-copied (adjointOf (start .args .tau) (lent start)) check yes lengths format (adjoint-none (start .args .steps) (none .if1 .taken))
+    run-copied (adjointOf (start .args .tau) (lent start)) check yes lengths plain (adjoint-none (start .args .steps) (none .if1 .taken))
     (stored .store .ensures
     ∙ ap (λ (n : ℕ). part 0 n (start .args .src .now)) (lengths .of-output ∙ sym (lengths .of-signal))
     ∙ part-whole (start .args .src .now))
@@ -157,10 +157,10 @@ returns-3 c =
     let some : 0 < start .args .steps = omega (arith, left .if1 .left) in
     let check = made .check-adjoint-run .ensures in
     let yes = told .enum-told .given .1 in
-    let format = adjoint-format (start .args .tau) (lent start) (starts .shared-slice-known4 .given) (ends .shared-slice-known5 .given)
+    let plain = adjoint-plain (start .args .tau) (lent start) (starts .shared-slice-known4 .given) (ends .shared-slice-known5 .given)
     (subst T (sym (start .good .1 .1 .1 .1 .1 .1 .1 .1 .0 .1)) tt) in
     run-stopped (adjointOf (start .args .tau) (lent start)) check yes
-    (adjoint-lengths (start .args .tau) (lent start) check yes) format (adjoint-some (start .args .steps) some)
+    (adjoint-lengths (start .args .tau) (lent start) check yes) plain (adjoint-some (start .args .steps) some)
     (adjoint-accepted (start .args .tau) (lent start) check yes .room some) _ _ _ (loaded .load .ensures) (taken .run-adjoint-steps .ensures)
     (cleared .clear .ensures) (stopped .enum-told4 .given .1)
 
@@ -210,10 +210,10 @@ returns-4 c =
     let some : 0 < start .args .steps = omega (arith, left .if1 .left) in
     let check = made .check-adjoint-run .ensures in
     let yes = told .enum-told .given .1 in
-    let format = adjoint-format (start .args .tau) (lent start) (starts .shared-slice-known4 .given) (ends .shared-slice-known5 .given)
+    let plain = adjoint-plain (start .args .tau) (lent start) (starts .shared-slice-known4 .given) (ends .shared-slice-known5 .given)
     (subst T (sym (start .good .1 .1 .1 .1 .1 .1 .1 .1 .0 .1)) tt) in
     run-done (adjointOf (start .args .tau) (lent start)) check yes
-    (adjoint-lengths (start .args .tau) (lent start) check yes) format (adjoint-some (start .args .steps) some)
+    (adjoint-lengths (start .args .tau) (lent start) check yes) plain (adjoint-some (start .args .steps) some)
     (adjoint-accepted (start .args .tau) (lent start) check yes .room some) _ _ _ (loaded .load .ensures) (taken .run-adjoint-steps .ensures)
     (cleared .clear2 .ensures) (went .enum-told3 .given .1) (stored .store2 .ensures)
 

@@ -4,7 +4,7 @@
 use native.Mathlib.Omega.{arith}
 use Rattle.graph_traj_parts.specs.Trajectory.{trajectory}
 use Rattle.magnus_graph_traj_outcome.proofs.RunOutcome.{run-refused, run-stopped, run-done}
-use Rattle.magnus_graph_traj_outcome.proofs.AcceptedRuns.{Lent, forwardOf, forward-accepted, forward-lengths, forward-some, forward-format}
+use Rattle.magnus_graph_traj_outcome.proofs.AcceptedRuns.{Lent, forwardOf, forward-accepted, forward-lengths, forward-some, forward-plain}
 use borrow.Author.Needs.{needs}
 use Rattle.magnus_graph_traj.proofs.evolve_with_traj_into.Statement.{statement}
 use Rattle.magnus_graph_traj.proofs.evolve_with_traj_into.Tie as tie
@@ -110,8 +110,8 @@ returns-2 c =
     let start = starts .before .before .before .before in
     let check = made .check-run .ensures in
     let yes = told .enum-told .given .1 in
-    let format = forward-format (lent start) (starts .shared-slice-known4 .given) (ends .shared-slice-known5 .given) in
-    run-stopped (forwardOf (lent start)) check yes (forward-lengths (lent start) check yes) format (forward-some (lent start) check yes)
+    let plain = forward-plain (lent start) (starts .shared-slice-known4 .given) (ends .shared-slice-known5 .given) in
+    run-stopped (forwardOf (lent start)) check yes (forward-lengths (lent start) check yes) plain (forward-some (lent start) check yes)
     (forward-accepted (lent start) check yes .room) _ _ _ (loaded .load .ensures) (taken .run-all-segments .ensures)
     (cleared .clear .ensures) (stopped .enum-told4 .given .1)
 
@@ -155,8 +155,8 @@ returns-3 c =
     let start = starts .before .before .before .before in
     let check = made .check-run .ensures in
     let yes = told .enum-told .given .1 in
-    let format = forward-format (lent start) (starts .shared-slice-known4 .given) (ends .shared-slice-known5 .given) in
-    run-done (forwardOf (lent start)) check yes (forward-lengths (lent start) check yes) format (forward-some (lent start) check yes)
+    let plain = forward-plain (lent start) (starts .shared-slice-known4 .given) (ends .shared-slice-known5 .given) in
+    run-done (forwardOf (lent start)) check yes (forward-lengths (lent start) check yes) plain (forward-some (lent start) check yes)
     (forward-accepted (lent start) check yes .room) _ _ _ (loaded .load .ensures) (taken .run-all-segments .ensures)
     (cleared .clear2 .ensures) (went .enum-told3 .given .1) (stored .store .ensures)
 

@@ -1,17 +1,12 @@
 -- `evolve_state_adjoint_into` meets its contract: it makes the checks of `weightedAdjointRunFault`; where they accept and there are steps,
 -- the signal is loaded into the work slice, the steps are taken there, what is held after the last is stored, and the needed part of the
 -- work slice is cleared. With no steps the signal is copied. Demand 3 follows from the definitions. Assumes nothing.
-use mathlib.Core.Path.{_≡_, refl, sym, ap, _∙_, subst}
-use mathlib.Core.Bool.{false}
-use mathlib.Core.List.{List, []}
+use mathlib.Core.Path.{_≡_, sym, ap, _∙_, subst}
 use Prim.Native.Nat.{ℕ, _<_}
 use native.Mathlib.Omega.{arith}
-use lib.Dec.{T, eqb}
+use lib.Dec.{T}
 use lib.ListN.{length}
-use borrow.Author.Tests.{ne-eqb}
 use borrow.Author.Needs.{needs}
-use Rattle.arithmetic.specs.Vector.{tabulate}
-use Rattle.arithmetic.proofs.Tabulate.{length-tabulate}
 use Rattle.scratch.specs.Parts.{part}
 use Rattle.scratch.proofs.Parts.{part-whole}
 use Rattle.error.specs.declared.Checked.{Checked}
@@ -20,10 +15,12 @@ use Rattle.magnus_graph.specs.StepOutcome.{adjoint}
 use Rattle.graph_traj_parts.specs.Trajectory.{Trajectory, trajectory}
 use Rattle.graph_traj_adjoint_checks.specs.AcceptedAdjointRun.{AcceptedWeightedAdjointRun}
 use Rattle.graph_traj_adjoint_checks.proofs.AdjointRunSound.{weighted-adjoint-run-accepted}
-use Rattle.magnus_graph_traj_steps.specs.RunSteps.{segmentSteps, adjointCourse}
-use Rattle.varcoef_magnus_graph_adjoint.specs.WeightedRunOutcome.{Run, weightedAdjointRun}
-use Rattle.varcoef_magnus_graph_adjoint.proofs.StepPlain.{step-plain}
-use Rattle.varcoef_magnus_graph_adjoint.proofs.RunOutcome.{run-refused, run-copied, run-stopped, run-done}
+use Rattle.magnus_graph_traj_steps.specs.RunSteps.{adjointCourse}
+use Rattle.magnus_graph_traj_outcome.specs.RunOutcome.{Run}
+use Rattle.magnus_graph_traj_outcome.proofs.RunOutcome.{RunLengths, run-refused, run-copied, run-stopped, run-done}
+use Rattle.magnus_graph_traj_outcome.proofs.AcceptedRuns.{adjoint-some, adjoint-none}
+use Rattle.varcoef_magnus_graph_adjoint.specs.WeightedRunOutcome.{weightedAdjointRun}
+use Rattle.varcoef_magnus_graph_adjoint.proofs.StepPlain.{steps-plain}
 use Rattle.varcoef_magnus_graph_adjoint.proofs.evolve_state_adjoint_into.Statement.{statement}
 use Rattle.varcoef_magnus_graph_adjoint.proofs.evolve_state_adjoint_into.Tie as tie
 
@@ -44,14 +41,13 @@ accepted-run : (start : tie.Start) {check : Checked} → check ≡ lent start .c
     (length (start .args .a-starts .now)) (length (start .args .a-ends .now)) (length (start .args .work .now))
 accepted-run start made accepted = weighted-adjoint-run-accepted _ _ _ _ _ _ _ _ _ _ _ .0 (sym made ∙ accepted)
 
-some-steps : (steps : ℕ) → 0 < steps → eqb (length (segmentSteps 0 steps)) 0 ≡ false
-some-steps steps l =
-    let count : length (segmentSteps 0 steps) ≡ steps = length-tabulate _ steps in
-    ne-eqb (length (segmentSteps 0 steps)) 0 (λ e. omega (arith, e, count, l))
-
-no-steps : (steps : ℕ) → steps ≡ 0 → segmentSteps 0 steps ≡ []
-unfolding tabulate
-no-steps steps e = rw e
+run-lengths : (start : tie.Start)
+    → AcceptedWeightedAdjointRun (along start) (start .args .tau) (start .args .steps) (start .args .rho-bar-max) (start .args .a-sup-max)
+    (start .args .convergence-radius-check) (length (start .args .src .now)) (length (start .args .dst .now))
+    (length (start .args .a-starts .now)) (length (start .args .a-ends .now)) (length (start .args .work .now))
+    → RunLengths (lent start) (start .args .n)
+run-lengths start ok =
+    record { of-signal = ok .signals .signal-length; of-output = ok .signals .output-length; within = omega arith }
 
 check-weighted-adjoint-run-requires : tie.Need-check-weighted-adjoint-run-requires
 check-weighted-adjoint-run-requires c κs = search needs
@@ -93,11 +89,10 @@ returns-2 c =
     let args = start .args in
     let t = along start in
     let ok = accepted-run start (made .check-weighted-adjoint-run .ensures) (told .enum-told .given .1) in
-    run-copied (lent start) (made .check-weighted-adjoint-run .ensures) (told .enum-told .given .1) (args .n) (ok .signals .signal-length)
-    (ok .signals .output-length) refl
-    (step-plain t (args .a-starts .now) (args .a-ends .now) (adjointCourse (args .tau) (args .steps)) adjoint (x1 .shared-slice-known4 .given)
+    run-copied (lent start) (made .check-weighted-adjoint-run .ensures) (told .enum-told .given .1) (run-lengths start ok)
+    (steps-plain t (args .a-starts .now) (args .a-ends .now) (adjointCourse (args .tau) (args .steps)) adjoint (x1 .shared-slice-known4 .given)
     (x2 .shared-slice-known5 .given) (a1 .shared-slice-known7 .given) (a2 .shared-slice-known8 .given)
-    (λ s. subst T (sym (start .good .1 .1 .1 .1 .1 .1 .1 .1 .0 .1)) tt)) (no-steps (args .steps) (none .if1 .taken))
+    (λ s. subst T (sym (start .good .1 .1 .1 .1 .1 .1 .1 .1 .0 .1)) tt)) (adjoint-none (args .steps) (none .if1 .taken))
     (stored .store .ensures
     ∙ ap (λ (n : ℕ). part 0 n (args .src .now)) (ok .signals .output-length ∙ sym (ok .signals .signal-length))
     ∙ part-whole (args .src .now))
@@ -186,11 +181,10 @@ returns-3 c =
     let t = along start in
     let some : 0 < start .args .steps = omega (arith, left .if1 .left) in
     let ok = accepted-run start (made .check-weighted-adjoint-run .ensures) (told .enum-told .given .1) in
-    run-stopped (lent start) (made .check-weighted-adjoint-run .ensures) (told .enum-told .given .1) (args .n) (ok .signals .signal-length)
-    (ok .signals .output-length) refl
-    (step-plain t (args .a-starts .now) (args .a-ends .now) (adjointCourse (args .tau) (args .steps)) adjoint (x1 .shared-slice-known4 .given)
+    run-stopped (lent start) (made .check-weighted-adjoint-run .ensures) (told .enum-told .given .1) (run-lengths start ok)
+    (steps-plain t (args .a-starts .now) (args .a-ends .now) (adjointCourse (args .tau) (args .steps)) adjoint (x1 .shared-slice-known4 .given)
     (x2 .shared-slice-known5 .given) (a1 .shared-slice-known7 .given) (a2 .shared-slice-known8 .given)
-    (λ s. subst T (sym (start .good .1 .1 .1 .1 .1 .1 .1 .1 .0 .1)) tt)) (some-steps (args .steps) some) (omega arith) (ok .room some) _ _ _
+    (λ s. subst T (sym (start .good .1 .1 .1 .1 .1 .1 .1 .1 .0 .1)) tt)) (adjoint-some (args .steps) some) (ok .room some) _ _ _
     (loaded .load .ensures) (taken .run-steps .ensures) (cleared .clear .ensures) (stopped .enum-told4 .given .1)
 
 store-requires-2 : tie.Need-store-requires-2
@@ -242,11 +236,10 @@ returns-4 c =
     let t = along start in
     let some : 0 < start .args .steps = omega (arith, left .if1 .left) in
     let ok = accepted-run start (made .check-weighted-adjoint-run .ensures) (told .enum-told .given .1) in
-    run-done (lent start) (made .check-weighted-adjoint-run .ensures) (told .enum-told .given .1) (args .n) (ok .signals .signal-length)
-    (ok .signals .output-length) refl
-    (step-plain t (args .a-starts .now) (args .a-ends .now) (adjointCourse (args .tau) (args .steps)) adjoint (x1 .shared-slice-known4 .given)
+    run-done (lent start) (made .check-weighted-adjoint-run .ensures) (told .enum-told .given .1) (run-lengths start ok)
+    (steps-plain t (args .a-starts .now) (args .a-ends .now) (adjointCourse (args .tau) (args .steps)) adjoint (x1 .shared-slice-known4 .given)
     (x2 .shared-slice-known5 .given) (a1 .shared-slice-known7 .given) (a2 .shared-slice-known8 .given)
-    (λ s. subst T (sym (start .good .1 .1 .1 .1 .1 .1 .1 .1 .0 .1)) tt)) (some-steps (args .steps) some) (omega arith) (ok .room some) _ _ _
+    (λ s. subst T (sym (start .good .1 .1 .1 .1 .1 .1 .1 .1 .0 .1)) tt)) (adjoint-some (args .steps) some) (ok .room some) _ _ _
     (loaded .load .ensures) (taken .run-steps .ensures) (cleared .clear2 .ensures) (went .enum-told3 .given .1) (stored .store2 .ensures)
 
 pub evolve-state-adjoint-into-spec : {M : Type 1} → statement M

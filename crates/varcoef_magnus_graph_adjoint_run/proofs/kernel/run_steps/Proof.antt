@@ -1,9 +1,9 @@
 -- `run_steps` meets its contract: under law 2 it takes the steps with samples of law 2, and under laws 0 and 1 those with the list that
 -- the law names. Assumes nothing.
-use mathlib.Core.Path.{_≡_, refl, ap, _∙_, subst}
+use mathlib.Core.Path.{_≡_, ap, _∙_}
 use Prim.Native.Nat.{ℕ, _+_, _*_, _≤_}
 use native.Mathlib.Omega.{arith}
-use lib.ListN.{length, getD}
+use lib.ListN.{length}
 use Rattle.graph_traj_segment.proofs.Laws.{length-law}
 use Rattle.graph_traj_parts.specs.Trajectory.{Trajectory, trajectory}
 use Rattle.varcoef_magnus_graph_traj_steps.proofs.ByLaw.{taken-2, taken-listed, starts-size, ends-size, law-there, law-known}
