@@ -2,8 +2,8 @@
 // Every function answers what its definition in specs/AdjointRunChecks.antt says, for all inputs.
 ghost use mathlib.Core.Path.{_≡_};
 ghost use Rattle.graph_traj_parts.specs.Trajectory.{trajectory};
-ghost use Rattle.graph_traj_adjoint_checks.specs.AdjointRunChecks.{adjointStepCountFault, weightedRunLengthsFault};
-ghost use Rattle.graph_traj_adjoint_checks.specs.AdjointRunChecks.{adjointStepsFault, adjointRunFault, weightedAdjointRunFault};
+ghost use Rattle.graph_traj_adjoint_faults.specs.AdjointRunChecks.{adjointStepCountFault, weightedRunLengthsFault};
+ghost use Rattle.graph_traj_adjoint_faults.specs.AdjointRunChecks.{adjointStepsFault, adjointRunFault, weightedAdjointRunFault};
 use error::Checked;
 use error::Refusal;
 use graph_traj_checks::check::check_run_lengths;

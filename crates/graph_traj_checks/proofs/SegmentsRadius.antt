@@ -11,7 +11,7 @@ use Rattle.error.specs.declared.Checked.the-variants.{Accepted, Refused}
 use Rattle.graph_traj_segment.specs.declared.kernel.Segment.{Segment}
 use Rattle.graph_traj_breakpoints.specs.Breakpoints.{breakpoint}
 use Rattle.graph_traj_segment.specs.SegmentValue.{segmentOf}
-use Rattle.magnus_graph_checks.specs.StepChecks.{radiusFault}
+use Rattle.magnus_graph_faults.specs.StepChecks.{radiusFault}
 use Rattle.graph_traj_faults.specs.Each.{each}
 use Rattle.graph_traj_faults.specs.RunChecks.{tauOf, segmentsRadiusFault}
 use Rattle.graph_traj_faults.proofs.Each.{each-none, each-accepted-then, each-refused-here}

@@ -11,8 +11,8 @@ use Rattle.error.proofs.Checks.{length-accepted}
 use Rattle.graph_traj_breakpoints.proofs.LookupSound.{count-accepted}
 use Rattle.graph_traj_parts.specs.Trajectory.{Trajectory}
 use Rattle.graph_traj_parts.proofs.TrajectorySound.{first-breakpoint-accepted, trajectory-accepted}
-use Rattle.magnus_graph_checks.specs.AcceptedStep.{WithinRadius}
-use Rattle.magnus_graph_checks.proofs.StepSound.{bound-accepted, radius-accepted, room-accepted, _then_}
+use Rattle.magnus_graph_faults.specs.AcceptedStep.{WithinRadius}
+use Rattle.magnus_graph_faults.proofs.StepSound.{bound-accepted, radius-accepted, room-accepted, _then_}
 use Rattle.graph_traj_faults.specs.RunChecks.{stepCountFault, tauOf, segmentsRadiusFault, runNeed, signalsFault}
 use Rattle.graph_traj_faults.specs.RunChecks.{runLengthsFault, runFault}
 use Rattle.graph_traj_faults.specs.AcceptedRun.{Signals, AcceptedRun}

@@ -4,7 +4,7 @@ use mathlib.Core.Bool.{Bool}
 use Prim.Native.Nat.{ℕ, _≤_, _<_}
 use lib.Ieee.{Float}
 use Rattle.graph_traj_parts.specs.Trajectory.{Trajectory, AcceptedTrajectory, FromZero}
-use Rattle.magnus_graph_checks.specs.AcceptedStep.{Positive, WithinRadius}
+use Rattle.magnus_graph_faults.specs.AcceptedStep.{Positive, WithinRadius}
 use Rattle.graph_traj_faults.specs.RunChecks.{tauOf, runNeed}
 
 -- the signal and the output have n places (row 10)

@@ -14,7 +14,7 @@ use Rattle.graph_traj_breakpoints.specs.Breakpoints.{breakpoint}
 use Rattle.graph_traj_segment.specs.Times.{segmentTau}
 use Rattle.graph_traj_parts.specs.Trajectory.{Trajectory}
 use Rattle.graph_traj_parts.specs.TrajectoryChecks.{firstBreakpointFault, trajectoryFault}
-use Rattle.magnus_graph_checks.specs.StepChecks.{boundFault, radiusFault, roomFault}
+use Rattle.magnus_graph_faults.specs.StepChecks.{boundFault, radiusFault, roomFault}
 use Rattle.graph_traj_faults.specs.Each.{each}
 
 -- ---- the rows of the table

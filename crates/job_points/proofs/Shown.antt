@@ -15,8 +15,8 @@ use Rattle.graph_checks.specs.PatternChecks.{sizeFault, rowStartCountFault, row
 use Rattle.graph_checks.specs.PatternChecks.{shapeFault, patternFault, csrFault}
 use Rattle.magnus.specs.Coefficients.{factorial, reciprocalFactorial}
 use Rattle.magnus.specs.Operators.{omega4, power, taylor}
-use Rattle.magnus_graph_checks.specs.StepChecks.{notPositive, boundFault, tauFault, radiusFault, roomFault, sampleFault, samplesFault}
-use Rattle.magnus_graph_checks.specs.StepChecks.{stepLengthFault, lengthsFault, stepFault}
+use Rattle.magnus_graph_faults.specs.StepChecks.{notPositive, boundFault, tauFault, radiusFault, roomFault, sampleFault, samplesFault}
+use Rattle.magnus_graph_faults.specs.StepChecks.{stepLengthFault, lengthsFault, stepFault}
 use Rattle.little_endian.specs.LittleEndian.{littleEndian}
 use Rattle.job_format.specs.JobFormat.{word16, real, words16, reals, stands, required, allowed, fieldSizes, fieldStart}
 use Rattle.job_format.specs.JobFormat.{jobMap, jobNodes, jobEntries, jobHas, jobField, malformed, malformedFault, jobRowStarts}

@@ -6,7 +6,7 @@ use Prim.Native.Nat.{ℕ, _*_}
 use lib.Ieee.{Float}
 use Rattle.scratch.specs.Parts.{zeros}
 use Rattle.error.specs.declared.Checked.{Checked}
-use Rattle.magnus_graph_checks.specs.StepChecks.{Sample, sample}
+use Rattle.magnus_graph_faults.specs.StepChecks.{Sample, sample}
 use Rattle.magnus_graph.specs.StepOutcome.{StepInput, stepInput, Stepped, stepAnswer, stepOutput, forward, adjoint}
 use Rattle.varcoef_magnus_graph.specs.StepOutcome.{StepInput as WeightedInput, stepInput as weightedInput, Stepped as WeightedStepped}
 use Rattle.varcoef_magnus_graph.specs.StepOutcome.{stepAnswer as weightedAnswer, stepOutput as weightedOutput}

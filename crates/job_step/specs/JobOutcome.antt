@@ -8,7 +8,7 @@ use Rattle.scratch.specs.Parts.{zeros}
 use Rattle.error.specs.Checks.{next}
 use Rattle.error.specs.Refusals.{Answers}
 use Rattle.error.specs.declared.Checked.{Checked}
-use Rattle.magnus_graph_checks.specs.StepChecks.{Sample, sample}
+use Rattle.magnus_graph_faults.specs.StepChecks.{Sample, sample}
 use Rattle.magnus_graph.specs.StepOutcome.{StepInput, stepInput, stepAnswer, stepOutput, forward, adjoint}
 use Rattle.varcoef_magnus_graph.specs.StepOutcome.{StepInput as WeightedInput, stepInput as weightedInput}
 use Rattle.varcoef_magnus_graph.specs.StepOutcome.{stepAnswer as weightedAnswer, stepOutput as weightedOutput}

@@ -1,6 +1,6 @@
 // The step of order 6 (magnus6_graph.rs, magnus6_graph_helpers.rs; 01, part 9). It takes three samples, each with its own n, row starts,
 // columns and values.
-ghost use Rattle.magnus_graph_checks.specs.StepChecks.{sample};
+ghost use Rattle.magnus_graph_faults.specs.StepChecks.{sample};
 ghost use Rattle.magnus6_graph_outcome.specs.StepOutcome.{step6Input, Stepped6};
 use error::Checked;
 use magnus6_graph_checks::check_step6;

@@ -1,8 +1,8 @@
 // The checks of the step of order 6 (magnus6_graph.rs): those of order 4, and of a third sample. Every function answers what
 // its definition in specs/Step6Checks.antt says, for all inputs.
 ghost use mathlib.Core.Path.{_≡_};
-ghost use Rattle.magnus_graph_checks.specs.StepChecks.{sample};
-ghost use Rattle.magnus6_graph_checks.specs.Step6Checks.{samples6Fault, lengths6Fault, step6Fault};
+ghost use Rattle.magnus_graph_faults.specs.StepChecks.{sample};
+ghost use Rattle.magnus6_graph_faults.specs.Step6Checks.{samples6Fault, lengths6Fault, step6Fault};
 use error::Checked;
 use error::check_length;
 use magnus_graph_checks::check_bound;

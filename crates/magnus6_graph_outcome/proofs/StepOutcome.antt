@@ -19,10 +19,10 @@ use Rattle.magnus.specs.Omega6.{constants6}
 use Rattle.magnus.specs.Coefficients.{reciprocalFactorial}
 use Rattle.magnus.specs.Agree.{OfFormat}
 use Rattle.magnus.proofs.PlainSum6.{samples6-plain-sum}
-use Rattle.magnus_graph_checks.specs.StepChecks.{Sample}
-use Rattle.magnus6_graph_checks.specs.AcceptedStep6.{AcceptedStep6}
-use Rattle.magnus_graph_checks.proofs.StepSound.{refused-not-accepted}
-use Rattle.magnus6_graph_checks.proofs.Step6Sound.{step6-accepted}
+use Rattle.magnus_graph_faults.specs.StepChecks.{Sample}
+use Rattle.magnus6_graph_faults.specs.AcceptedStep6.{AcceptedStep6}
+use Rattle.magnus_graph_faults.proofs.StepSound.{refused-not-accepted}
+use Rattle.magnus6_graph_faults.proofs.Step6Sound.{step6-accepted}
 use Rattle.magnus_graph.specs.StepOutcome.{StepInput}
 use Rattle.magnus_graph.proofs.StepOutcome.{valued}
 use Rattle.magnus6_graph_helpers.specs.Omega6Step.{expOmega6}

@@ -20,8 +20,8 @@ use Rattle.magnus.specs.Coefficients.{reciprocalFactorial}
 use Rattle.magnus.specs.Agree.{SamplesAgree}
 use Rattle.magnus.specs.Formed.{FormedOperator, formedProduct}
 use Rattle.magnus.specs.FormedOmega6.{formedStep6}
-use Rattle.magnus_graph_checks.specs.StepChecks.{Sample}
-use Rattle.magnus6_graph_checks.specs.Step6Checks.{step6Fault}
+use Rattle.magnus_graph_faults.specs.StepChecks.{Sample}
+use Rattle.magnus6_graph_faults.specs.Step6Checks.{step6Fault}
 use Rattle.magnus_graph.specs.StepOutcome.{StepInput, stepInput}
 use Rattle.magnus6_graph_helpers.specs.Omega6Step.{expOmega6}
 

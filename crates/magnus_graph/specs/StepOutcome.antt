@@ -21,7 +21,7 @@ use Rattle.magnus.specs.Agree.{SamplesAgree}
 use Rattle.magnus.specs.Formed.{formedProduct, formedStep4}
 use Rattle.magnus_graph.specs.Omega4.{sqrt3Over12}
 use Rattle.magnus_graph_step.specs.Omega4.{expOmega4}
-use Rattle.magnus_graph_checks.specs.StepChecks.{Sample, stepFault}
+use Rattle.magnus_graph_faults.specs.StepChecks.{Sample, stepFault}
 
 -- the sign of the commutator: 1 forward, -1 adjoint
 abbrev pub forward : Float

@@ -3,8 +3,8 @@
 // specs/StepChecks.antt says, for all inputs.
 ghost use mathlib.Core.Path.{_≡_};
 ghost use mathlib.Core.Bool.{not};
-ghost use Rattle.magnus_graph_checks.specs.StepChecks.{notPositive, boundFault, tauFault, radiusFault, roomFault};
-ghost use Rattle.magnus_graph_checks.specs.StepChecks.{sample, samplesFault, stepLengthFault, lengthsFault, stepFault};
+ghost use Rattle.magnus_graph_faults.specs.StepChecks.{notPositive, boundFault, tauFault, radiusFault, roomFault};
+ghost use Rattle.magnus_graph_faults.specs.StepChecks.{sample, samplesFault, stepLengthFault, lengthsFault, stepFault};
 use error::Checked;
 use error::Refusal;
 use error::check_length;

@@ -17,9 +17,9 @@ use Rattle.magnus_graph.specs.StepOutcome.{forward, adjoint}
 use Rattle.graph_traj_segment.specs.Times.{segmentTau}
 use Rattle.graph_traj_parts.specs.Trajectory.{Trajectory}
 use Rattle.graph_traj_faults.specs.AcceptedRun.{AcceptedRun}
-use Rattle.graph_traj_adjoint_checks.specs.AcceptedAdjointRun.{AcceptedAdjointRun}
+use Rattle.graph_traj_adjoint_faults.specs.AcceptedAdjointRun.{AcceptedAdjointRun}
 use Rattle.graph_traj_faults.proofs.RunSound.{run-accepted}
-use Rattle.graph_traj_adjoint_checks.proofs.AdjointRunSound.{adjoint-run-accepted}
+use Rattle.graph_traj_adjoint_faults.proofs.AdjointRunSound.{adjoint-run-accepted}
 use Rattle.magnus_graph_traj_steps.specs.RunSteps.{segmentSteps, allSteps, forwardCourse, adjointCourse}
 use Rattle.magnus_graph_traj_steps.proofs.Courses.{segment-count}
 use Rattle.magnus_graph_traj_outcome.specs.RunOutcome.{Run, forwardRun, adjointRun}

@@ -19,7 +19,7 @@ use Rattle.error.proofs.Checks.{refused-here, accepted-then}
 use Rattle.error.proofs.Left.{answers, left-unchanged, left-written}
 use Rattle.magnus.specs.Run.{runAlong}
 use Rattle.magnus.proofs.PlainRun.{plain-run}
-use Rattle.magnus_graph_checks.proofs.StepSound.{refused-not-accepted}
+use Rattle.magnus_graph_faults.proofs.StepSound.{refused-not-accepted}
 use Rattle.magnus_graph_traj_steps.specs.RunSteps.{RunStep, firstFault}
 use Rattle.magnus_graph_traj_steps.specs.StepsTaken.{StepsTaken}
 use Rattle.magnus_graph_traj_outcome.specs.RunOutcome.{Stepping, Run, runAnswer, PlainRun, Ran}

@@ -18,7 +18,7 @@ use Rattle.magnus.specs.Run.{runAlong, everyStep, formedAlong}
 use Rattle.magnus_graph.specs.StepOutcome.{forward, adjoint}
 use Rattle.graph_traj_parts.specs.Trajectory.{Trajectory}
 use Rattle.graph_traj_faults.specs.RunChecks.{runNeed, runFault}
-use Rattle.graph_traj_adjoint_checks.specs.AdjointRunChecks.{adjointRunFault}
+use Rattle.graph_traj_adjoint_faults.specs.AdjointRunChecks.{adjointRunFault}
 use Rattle.magnus_graph_traj_steps.specs.RunSteps.{RunStep, Course, forwardCourse, adjointCourse, runStepFault, runStepImage}
 use Rattle.magnus_graph_traj_steps.specs.RunSteps.{firstFault}
 use Rattle.magnus_graph_traj_outcome.specs.PlainSteps.{formedRunStep, stepAgrees, plainStep}

@@ -22,7 +22,7 @@ use Rattle.graph_traj_breakpoints.specs.LookupChecks.{lookupTimeFault, lookupFa
 use Rattle.graph_traj_lists.specs.ListChecks.{lawsFault, countsFault, listsFault}
 use Rattle.graph_traj_parts.specs.TrajectoryChecks.{adjointTrajectoryFault}
 use Rattle.graph_traj_faults.specs.RunChecks.{signalsFault}
-use Rattle.graph_traj_adjoint_checks.specs.AdjointRunChecks.{adjointRunFault}
+use Rattle.graph_traj_adjoint_faults.specs.AdjointRunChecks.{adjointRunFault}
 use Rattle.job_format.specs.JobFormat.{word16, real as wordReal, words16, reals as wordReals, stands, required, allowed, fieldSizes}
 use Rattle.job_format.specs.JobFormat.{fieldStart, jobMap, jobNodes, jobEntries, jobHas, jobField, malformed, malformedFault}
 use Rattle.job_format.specs.JobFormat.{jobRowStarts, jobColumns, jobValues, jobTau, jobBound, jobSignal}
@@ -32,13 +32,13 @@ use Rattle.little_endian.specs.LittleEndian.{littleEndian}
 use Rattle.magnus.specs.Coefficients.{factorial, reciprocalFactorial}
 use Rattle.magnus.specs.Operators.{weighted, omega4, power, taylor}
 use Rattle.magnus.specs.Run.{runAlong}
-use Rattle.magnus_graph_checks.specs.StepChecks.{notPositive, boundFault, tauFault, radiusFault}
-use Rattle.varcoef_magnus_graph_checks.specs.WeightedStepChecks.{noNodesFault, weightedBound}
-use Rattle.varcoef_magnus_graph_checks.specs.WeightedStepChecks.{weightsLengthFault, sampleWeightsFault}
-use Rattle.magnus_graph_checks.specs.StepChecks.{roomFault, sampleFault, samplesFault}
-use Rattle.varcoef_magnus_graph_checks.specs.WeightedStepChecks.{weightedBoundsFault, weightFault}
-use Rattle.magnus_graph_checks.specs.StepChecks.{stepLengthFault, lengthsFault, stepFault}
-use Rattle.varcoef_magnus_graph_checks.specs.WeightedStepChecks.{weightedStepFault}
+use Rattle.magnus_graph_faults.specs.StepChecks.{notPositive, boundFault, tauFault, radiusFault}
+use Rattle.varcoef_magnus_graph_faults.specs.WeightedStepChecks.{noNodesFault, weightedBound}
+use Rattle.varcoef_magnus_graph_faults.specs.WeightedStepChecks.{weightsLengthFault, sampleWeightsFault}
+use Rattle.magnus_graph_faults.specs.StepChecks.{roomFault, sampleFault, samplesFault}
+use Rattle.varcoef_magnus_graph_faults.specs.WeightedStepChecks.{weightedBoundsFault, weightFault}
+use Rattle.magnus_graph_faults.specs.StepChecks.{stepLengthFault, lengthsFault, stepFault}
+use Rattle.varcoef_magnus_graph_faults.specs.WeightedStepChecks.{weightedStepFault}
 use Rattle.magnus_graph_traj_steps.specs.RunSteps.{firstFault}
 use Rattle.scratch.specs.Parts.{put}
 use Rattle.square_root.specs.SquareRoot.{squareRoot}

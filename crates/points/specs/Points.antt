@@ -15,7 +15,7 @@ use Rattle.graph_traj_parts.specs.Trajectory.{Trajectory, trajectory}
 use Rattle.graph_traj_breakpoints.specs.LookupChecks.{lookupFault}
 use Rattle.job_points.specs.ExampleJob.{exampleJob}
 use Rattle.job_step.specs.JobOutcome.{jobAnswer, jobOutput}
-use Rattle.magnus_graph_checks.specs.StepChecks.{Sample, sample}
+use Rattle.magnus_graph_faults.specs.StepChecks.{Sample, sample}
 use Rattle.magnus_graph.specs.StepOutcome.{StepInput, stepInput, forward, adjoint, stepAnswer, stepOutput, stepWork}
 use Rattle.magnus_graph_traj_outcome.specs.RunOutcome.{adjointRun, runAnswer, runOutput, runWork}
 use Rattle.square_root.specs.SquareRoot.{squareRoot}

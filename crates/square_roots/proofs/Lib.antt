@@ -1,5 +1,2 @@
 pub mod Roots
-pub mod SignBit
-pub mod Square
 pub mod Tested
-pub mod Verified

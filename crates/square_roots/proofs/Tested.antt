@@ -10,7 +10,7 @@ use lib.ListN.{length, getD, length-map, List·getD-map}
 use lib.Seq.{ext-getD}
 use lib.Ieee.{Float, binary64, nan}
 use Rattle.square_root.specs.SquareRoot.{squareRoot}
-use Rattle.square_roots.proofs.SignBit.{both-set}
+use Rattle.square_root_test.proofs.SignBit.{both-set}
 
 -- where the sign bit of `passed` is set, the first i of ys are the square roots of the first i of xs
 pub record RootsBefore (xs ys : List Float) (i passed : ℕ) : Type 0 where

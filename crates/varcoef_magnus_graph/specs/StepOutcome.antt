@@ -21,8 +21,8 @@ use Rattle.magnus.specs.Coefficients.{reciprocalFactorial}
 use Rattle.magnus.specs.Agree.{agree, SamplesAgree}
 use Rattle.magnus.specs.Formed.{FormedOperator, formedProduct, formedWeighted, formedStep4}
 use Rattle.magnus_graph_step.specs.Omega4.{expOmega4}
-use Rattle.magnus_graph_checks.specs.StepChecks.{Sample}
-use Rattle.varcoef_magnus_graph_checks.specs.WeightedStepChecks.{weightedStepFault}
+use Rattle.magnus_graph_faults.specs.StepChecks.{Sample}
+use Rattle.varcoef_magnus_graph_faults.specs.WeightedStepChecks.{weightedStepFault}
 use Rattle.varcoef_magnus_graph.specs.WeightedOmega4.{sqrt3Over12}
 
 -- what a caller lends to a weighted step

@@ -7,7 +7,7 @@ use lib.ListN.{length}
 use lib.Ieee.{Float}
 use Rattle.magnus_graph.specs.StepOutcome.{adjoint}
 use Rattle.graph_traj_parts.specs.Trajectory.{Trajectory}
-use Rattle.graph_traj_adjoint_checks.specs.AdjointRunChecks.{weightedRunNeed, weightedAdjointRunFault}
+use Rattle.graph_traj_adjoint_faults.specs.AdjointRunChecks.{weightedRunNeed, weightedAdjointRunFault}
 use Rattle.magnus_graph_traj_steps.specs.RunSteps.{Course, adjointCourse}
 use Rattle.magnus_graph_traj_outcome.specs.RunOutcome.{Stepping, Run}
 use Rattle.varcoef_magnus_graph_traj_steps.specs.WeightedRunSteps.{weightedRunStepFault, weightedRunStepImage}

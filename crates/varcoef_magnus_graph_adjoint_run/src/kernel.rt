@@ -5,7 +5,7 @@ ghost use Prim.Native.Nat.{_+_, _*_, _≤_, _<_};
 ghost use lib.ListN.{length};
 ghost use Rattle.graph_checks.specs.Pattern.{Pattern, ValuedPattern};
 ghost use Rattle.magnus_graph.specs.StepOutcome.{adjoint};
-ghost use Rattle.varcoef_magnus_graph_checks.specs.WeightedStepChecks.{weightFault};
+ghost use Rattle.varcoef_magnus_graph_faults.specs.WeightedStepChecks.{weightFault};
 ghost use Rattle.graph_traj_segment.specs.Laws.{fraction, lawValues};
 ghost use Rattle.graph_traj_segment.specs.Times.{c1, c2, adjointStepStart, sampleTime};
 ghost use Rattle.graph_traj_parts.specs.Trajectory.{trajectory, AcceptedAdjointTrajectory};

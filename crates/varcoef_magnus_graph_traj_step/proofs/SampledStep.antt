@@ -23,9 +23,9 @@ use Rattle.magnus.specs.Operators.{weighted}
 use Rattle.magnus.specs.Coefficients.{reciprocalFactorial}
 use Rattle.magnus_graph_step.specs.Omega4.{expOmega4}
 use Rattle.magnus_graph.specs.StepOutcome.{adjoint}
-use Rattle.varcoef_magnus_graph_checks.specs.WeightedStepChecks.{sampleWeightsFault, weightFault}
+use Rattle.varcoef_magnus_graph_faults.specs.WeightedStepChecks.{sampleWeightsFault, weightFault}
 use Rattle.magnus_graph_helpers.specs.Terms.{TermsAdded}
-use Rattle.magnus_graph_checks.proofs.StepSound.{refused-not-accepted}
+use Rattle.magnus_graph_faults.proofs.StepSound.{refused-not-accepted}
 use Rattle.varcoef_magnus_graph.specs.WeightedOmega4.{sqrt3Over12}
 use Rattle.graph_traj_segment.specs.Laws.{lawValues}
 use Rattle.graph_traj_samples.specs.Sampled.{sampledFault}

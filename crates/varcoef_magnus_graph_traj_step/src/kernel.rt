@@ -19,7 +19,7 @@ ghost use Rattle.graph_checks.specs.Pattern.{Pattern, ValuedPattern};
 ghost use Rattle.graph_rows.specs.RowProduct.{rowProduct64};
 ghost use Rattle.graph_pairs.specs.Pairs.{firsts, seconds};
 ghost use Rattle.magnus.specs.Coefficients.{reciprocalFactorial};
-ghost use Rattle.varcoef_magnus_graph_checks.specs.WeightedStepChecks.{sampleWeightsFault};
+ghost use Rattle.varcoef_magnus_graph_faults.specs.WeightedStepChecks.{sampleWeightsFault};
 ghost use Rattle.magnus_graph_helpers.specs.Terms.{TermAdded, TermsAdded};
 ghost use Rattle.varcoef_magnus_graph_step.specs.WeightedOmega4.{weightedOmega4};
 ghost use Rattle.graph_traj_segment.specs.Laws.{lawValues};

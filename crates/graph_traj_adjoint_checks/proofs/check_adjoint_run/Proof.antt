@@ -5,7 +5,7 @@ use native.Mathlib.Omega.{arith}
 use borrow.Author.Needs.{needs}
 use Rattle.error.proofs.Checks.{refused-here, accepted-then}
 use Rattle.graph_traj_parts.proofs.TrajectorySound.{adjoint-trajectory-accepted}
-use Rattle.graph_traj_adjoint_checks.specs.AdjointRunChecks.{adjointRunFault}
+use Rattle.graph_traj_adjoint_faults.specs.AdjointRunChecks.{adjointRunFault}
 use Rattle.graph_traj_adjoint_checks.proofs.Steps.{no-steps, some-steps}
 use Rattle.graph_traj_adjoint_checks.proofs.check_adjoint_run.Statement.{statement}
 use Rattle.graph_traj_adjoint_checks.proofs.check_adjoint_run.Tie as tie

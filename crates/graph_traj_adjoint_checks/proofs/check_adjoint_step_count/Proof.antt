@@ -1,7 +1,7 @@
 -- `check_adjoint_step_count` meets its contract: it makes the test of `adjointStepCountFault`. Assumes nothing.
 use borrow.Author.Tests.{lt-ltb, le-ltb}
 use Rattle.error.proofs.Checks.{refuses, accepts}
-use Rattle.graph_traj_adjoint_checks.specs.AdjointRunChecks.{adjointStepCountFault}
+use Rattle.graph_traj_adjoint_faults.specs.AdjointRunChecks.{adjointStepCountFault}
 use Rattle.graph_traj_adjoint_checks.proofs.check_adjoint_step_count.Statement.{statement}
 use Rattle.graph_traj_adjoint_checks.proofs.check_adjoint_step_count.Tie as tie
 

@@ -1,7 +1,7 @@
 -- `check_adjoint_steps` meets its contract: it makes the checks of `adjointStepsFault` in their order. Assumes nothing.
 use borrow.Author.Needs.{needs}
 use Rattle.error.proofs.Checks.{refused-here, accepted-then}
-use Rattle.graph_traj_adjoint_checks.specs.AdjointRunChecks.{adjointStepsFault}
+use Rattle.graph_traj_adjoint_faults.specs.AdjointRunChecks.{adjointStepsFault}
 use Rattle.graph_traj_adjoint_checks.proofs.check_adjoint_steps.Statement.{statement}
 use Rattle.graph_traj_adjoint_checks.proofs.check_adjoint_steps.Tie as tie
 

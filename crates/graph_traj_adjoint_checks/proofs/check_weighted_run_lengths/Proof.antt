@@ -1,7 +1,7 @@
 -- `check_weighted_run_lengths` meets its contract: it makes the checks of `weightedRunLengthsFault` in their order. Assumes nothing.
 use borrow.Author.Needs.{needs}
 use Rattle.error.proofs.Checks.{refused-here, accepted-then}
-use Rattle.graph_traj_adjoint_checks.specs.AdjointRunChecks.{weightedRunLengthsFault}
+use Rattle.graph_traj_adjoint_faults.specs.AdjointRunChecks.{weightedRunLengthsFault}
 use Rattle.graph_traj_adjoint_checks.proofs.check_weighted_run_lengths.Statement.{statement}
 use Rattle.graph_traj_adjoint_checks.proofs.check_weighted_run_lengths.Tie as tie
 

@@ -1,7 +1,7 @@
 -- `apply_exp_omega6_kernel` meets its contract: it makes the checks of `step6Fault`, and where they accept, the kernel's answer is the
 -- step's. Demand 3 follows from the definitions. Assumes nothing.
 use borrow.Author.Needs.{needs}
-use Rattle.magnus_graph_checks.specs.StepChecks.{sample}
+use Rattle.magnus_graph_faults.specs.StepChecks.{sample}
 use Rattle.magnus6_graph_outcome.specs.StepOutcome.{Step6Input, step6Input}
 use Rattle.magnus6_graph_outcome.proofs.StepOutcome.{step6-refused, kernel-asks, step6-taken}
 use Rattle.magnus6_graph.proofs.apply_exp_omega6_kernel.Statement.{statement}

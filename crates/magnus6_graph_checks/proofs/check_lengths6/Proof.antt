@@ -3,7 +3,7 @@
 use borrow.Author.Needs.{needs}
 use Rattle.error.proofs.Checks.{refused-here, accepted-then}
 use Rattle.error.proofs.Left.{fault-is}
-use Rattle.magnus6_graph_checks.specs.Step6Checks.{lengths6Fault}
+use Rattle.magnus6_graph_faults.specs.Step6Checks.{lengths6Fault}
 use Rattle.magnus6_graph_checks.proofs.check_lengths6.Statement.{statement}
 use Rattle.magnus6_graph_checks.proofs.check_lengths6.Tie as tie
 

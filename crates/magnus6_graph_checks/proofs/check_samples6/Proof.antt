@@ -3,8 +3,8 @@
 use borrow.Author.Needs.{needs}
 use Rattle.error.proofs.Checks.{refused-here, accepted-then}
 use Rattle.error.proofs.Left.{fault-is}
-use Rattle.magnus_graph_checks.specs.StepChecks.{sampleFault}
-use Rattle.magnus6_graph_checks.specs.Step6Checks.{samples6Fault}
+use Rattle.magnus_graph_faults.specs.StepChecks.{sampleFault}
+use Rattle.magnus6_graph_faults.specs.Step6Checks.{samples6Fault}
 use Rattle.magnus6_graph_checks.proofs.check_samples6.Statement.{statement}
 use Rattle.magnus6_graph_checks.proofs.check_samples6.Tie as tie
 

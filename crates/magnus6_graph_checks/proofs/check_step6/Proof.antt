@@ -3,8 +3,8 @@
 use native.Mathlib.Omega.{arith}
 use borrow.Author.Needs.{needs}
 use Rattle.error.proofs.Checks.{refused-here, accepted-then}
-use Rattle.magnus6_graph_checks.specs.Step6Checks.{step6Fault}
-use Rattle.magnus6_graph_checks.proofs.Step6Sound.{few-nodes6}
+use Rattle.magnus6_graph_faults.specs.Step6Checks.{step6Fault}
+use Rattle.magnus6_graph_faults.proofs.Step6Sound.{few-nodes6}
 use Rattle.magnus6_graph_checks.proofs.check_step6.Statement.{statement}
 use Rattle.magnus6_graph_checks.proofs.check_step6.Tie as tie
 

@@ -3,7 +3,7 @@ use mathlib.Core.Path.{sym, _∙_}
 use borrow.Author.Needs.{needs}
 use borrow.Author.Tests.{not-true, not-false}
 use Rattle.error.proofs.Checks.{refuses, accepts}
-use Rattle.magnus_graph_checks.specs.StepChecks.{boundFault}
+use Rattle.magnus_graph_faults.specs.StepChecks.{boundFault}
 use Rattle.magnus_graph_checks.proofs.check_bound.Statement.{statement}
 use Rattle.magnus_graph_checks.proofs.check_bound.Tie as tie
 

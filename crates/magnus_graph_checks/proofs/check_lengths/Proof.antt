@@ -3,7 +3,7 @@
 use borrow.Author.Needs.{needs}
 use Rattle.error.proofs.Checks.{refused-here, accepted-then}
 use Rattle.error.proofs.Left.{fault-is}
-use Rattle.magnus_graph_checks.specs.StepChecks.{lengthsFault}
+use Rattle.magnus_graph_faults.specs.StepChecks.{lengthsFault}
 use Rattle.magnus_graph_checks.proofs.check_lengths.Statement.{statement}
 use Rattle.magnus_graph_checks.proofs.check_lengths.Tie as tie
 

@@ -1,6 +1,6 @@
 -- `magnus_graph_checks::check_radius` meets its contract: it makes the test of `radiusFault`. Assumes nothing.
 use Rattle.error.proofs.Checks.{refuses, accepts}
-use Rattle.magnus_graph_checks.specs.StepChecks.{radiusFault}
+use Rattle.magnus_graph_faults.specs.StepChecks.{radiusFault}
 use Rattle.magnus_graph_checks.proofs.check_radius.Statement.{statement}
 use Rattle.magnus_graph_checks.proofs.check_radius.Tie as tie
 

@@ -1,7 +1,7 @@
 -- `magnus_graph_checks::check_room` meets its contract: it makes the test of `roomFault`. Assumes nothing.
 use borrow.Author.Tests.{lt-ltb, le-ltb}
 use Rattle.error.proofs.Checks.{refuses, accepts}
-use Rattle.magnus_graph_checks.specs.StepChecks.{roomFault}
+use Rattle.magnus_graph_faults.specs.StepChecks.{roomFault}
 use Rattle.magnus_graph_checks.proofs.check_room.Statement.{statement}
 use Rattle.magnus_graph_checks.proofs.check_room.Tie as tie
 

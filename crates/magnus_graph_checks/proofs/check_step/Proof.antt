@@ -3,8 +3,8 @@
 use native.Mathlib.Omega.{arith}
 use borrow.Author.Needs.{needs}
 use Rattle.error.proofs.Checks.{refused-here, accepted-then}
-use Rattle.magnus_graph_checks.specs.StepChecks.{stepFault}
-use Rattle.magnus_graph_checks.proofs.StepSound.{few-nodes}
+use Rattle.magnus_graph_faults.specs.StepChecks.{stepFault}
+use Rattle.magnus_graph_faults.proofs.StepSound.{few-nodes}
 use Rattle.magnus_graph_checks.proofs.check_step.Statement.{statement}
 use Rattle.magnus_graph_checks.proofs.check_step.Tie as tie
 

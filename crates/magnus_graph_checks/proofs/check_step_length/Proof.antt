@@ -1,7 +1,7 @@
 -- `magnus_graph_checks::check_step_length` meets its contract: it makes the checks of `stepLengthFault` in their order. Assumes nothing.
 use borrow.Author.Needs.{needs}
 use Rattle.error.proofs.Checks.{refused-here, accepted-then}
-use Rattle.magnus_graph_checks.specs.StepChecks.{stepLengthFault}
+use Rattle.magnus_graph_faults.specs.StepChecks.{stepLengthFault}
 use Rattle.magnus_graph_checks.proofs.check_step_length.Statement.{statement}
 use Rattle.magnus_graph_checks.proofs.check_step_length.Tie as tie
 

@@ -3,7 +3,7 @@ use mathlib.Core.Path.{_≡_}
 use mathlib.Core.Bool.{Bool, not, _||_}
 use borrow.Author.Needs.{needs}
 use Rattle.error.proofs.Checks.{refuses, accepts}
-use Rattle.magnus_graph_checks.specs.StepChecks.{tauFault}
+use Rattle.magnus_graph_faults.specs.StepChecks.{tauFault}
 use Rattle.magnus_graph_checks.proofs.check_tau.Statement.{statement}
 use Rattle.magnus_graph_checks.proofs.check_tau.Tie as tie
 

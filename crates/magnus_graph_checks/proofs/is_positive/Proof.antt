@@ -1,5 +1,5 @@
 -- `magnus_graph_checks::is_positive` meets its contract: its test is `positive-by-comparisons`. Assumes nothing.
-use Rattle.magnus_graph_checks.proofs.Positive.{positive-by-comparisons}
+use Rattle.magnus_graph_faults.proofs.Positive.{positive-by-comparisons}
 use Rattle.magnus_graph_checks.proofs.is_positive.Statement.{statement}
 use Rattle.magnus_graph_checks.proofs.is_positive.Tie as tie
 

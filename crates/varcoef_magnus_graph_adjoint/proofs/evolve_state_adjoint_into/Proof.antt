@@ -13,8 +13,8 @@ use Rattle.error.specs.declared.Checked.{Checked}
 use Rattle.error.specs.declared.Checked.the-variants.{Accepted}
 use Rattle.magnus_graph.specs.StepOutcome.{adjoint}
 use Rattle.graph_traj_parts.specs.Trajectory.{Trajectory, trajectory}
-use Rattle.graph_traj_adjoint_checks.specs.AcceptedAdjointRun.{AcceptedWeightedAdjointRun}
-use Rattle.graph_traj_adjoint_checks.proofs.AdjointRunSound.{weighted-adjoint-run-accepted}
+use Rattle.graph_traj_adjoint_faults.specs.AcceptedAdjointRun.{AcceptedWeightedAdjointRun}
+use Rattle.graph_traj_adjoint_faults.proofs.AdjointRunSound.{weighted-adjoint-run-accepted}
 use Rattle.magnus_graph_traj_steps.specs.RunSteps.{adjointCourse}
 use Rattle.magnus_graph_traj_outcome.specs.RunOutcome.{Run}
 use Rattle.magnus_graph_traj_outcome.proofs.RunOutcome.{RunLengths, run-refused, run-copied, run-stopped, run-done}

@@ -9,7 +9,7 @@ use lib.Ieee.{Float, nan}
 use borrow.Author.Needs.{needs}
 use Rattle.float.specs.All.{all}
 use Rattle.float.proofs.All.{all-of-none, all-more, all-passed}
-use Rattle.magnus_graph_checks.specs.StepChecks.{notPositive}
+use Rattle.magnus_graph_faults.specs.StepChecks.{notPositive}
 use Rattle.varcoef_magnus_graph_checks.proofs.all_positive.Statement.{statement}
 use Rattle.varcoef_magnus_graph_checks.proofs.all_positive.Tie as tie
 

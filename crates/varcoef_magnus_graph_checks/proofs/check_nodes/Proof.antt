@@ -1,7 +1,7 @@
 -- `varcoef_magnus_graph_checks::check_nodes` meets its contract: it makes the test of `noNodesFault`. Assumes nothing.
 use borrow.Author.Tests.{eq-eqb, ne-eqb}
 use Rattle.error.proofs.Checks.{refuses, accepts}
-use Rattle.varcoef_magnus_graph_checks.specs.WeightedStepChecks.{noNodesFault}
+use Rattle.varcoef_magnus_graph_faults.specs.WeightedStepChecks.{noNodesFault}
 use Rattle.varcoef_magnus_graph_checks.proofs.check_nodes.Statement.{statement}
 use Rattle.varcoef_magnus_graph_checks.proofs.check_nodes.Tie as tie
 

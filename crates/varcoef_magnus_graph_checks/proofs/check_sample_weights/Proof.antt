@@ -10,8 +10,8 @@ use borrow.Author.Needs.{needs}
 use Rattle.float.specs.All.{all}
 use Rattle.graph_checks.specs.First.{first}
 use Rattle.graph_checks.proofs.First.{none-fails, some-fails, refuses-first, accepts-none}
-use Rattle.magnus_graph_checks.specs.StepChecks.{notPositive}
-use Rattle.varcoef_magnus_graph_checks.specs.WeightedStepChecks.{notPositiveAt, sampleWeightsFault}
+use Rattle.magnus_graph_faults.specs.StepChecks.{notPositive}
+use Rattle.varcoef_magnus_graph_faults.specs.WeightedStepChecks.{notPositiveAt, sampleWeightsFault}
 use Rattle.varcoef_magnus_graph_checks.proofs.check_sample_weights.Statement.{statement}
 use Rattle.varcoef_magnus_graph_checks.proofs.check_sample_weights.Tie as tie
 

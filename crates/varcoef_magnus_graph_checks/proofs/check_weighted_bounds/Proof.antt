@@ -2,7 +2,7 @@
 -- Assumes nothing.
 use borrow.Author.Needs.{needs}
 use Rattle.error.proofs.Checks.{refused-here, accepted-then}
-use Rattle.varcoef_magnus_graph_checks.specs.WeightedStepChecks.{weightedBoundsFault}
+use Rattle.varcoef_magnus_graph_faults.specs.WeightedStepChecks.{weightedBoundsFault}
 use Rattle.varcoef_magnus_graph_checks.proofs.check_weighted_bounds.Statement.{statement}
 use Rattle.varcoef_magnus_graph_checks.proofs.check_weighted_bounds.Tie as tie
 

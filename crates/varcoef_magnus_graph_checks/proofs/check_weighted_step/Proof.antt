@@ -3,8 +3,8 @@
 use native.Mathlib.Omega.{arith}
 use borrow.Author.Needs.{needs}
 use Rattle.error.proofs.Checks.{refused-here, accepted-then}
-use Rattle.varcoef_magnus_graph_checks.specs.WeightedStepChecks.{weightedBound, weightedStepFault}
-use Rattle.magnus_graph_checks.proofs.StepSound.{few-nodes}
+use Rattle.varcoef_magnus_graph_faults.specs.WeightedStepChecks.{weightedBound, weightedStepFault}
+use Rattle.magnus_graph_faults.proofs.StepSound.{few-nodes}
 use Rattle.varcoef_magnus_graph_checks.proofs.check_weighted_step.Statement.{statement}
 use Rattle.varcoef_magnus_graph_checks.proofs.check_weighted_step.Tie as tie
 

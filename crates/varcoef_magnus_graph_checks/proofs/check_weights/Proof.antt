@@ -1,7 +1,7 @@
 -- `varcoef_magnus_graph_checks::check_weights` meets its contract: it makes the checks of `weightFault` in their order. Assumes nothing.
 use borrow.Author.Needs.{needs}
 use Rattle.error.proofs.Checks.{refused-here, accepted-then}
-use Rattle.varcoef_magnus_graph_checks.specs.WeightedStepChecks.{weightFault}
+use Rattle.varcoef_magnus_graph_faults.specs.WeightedStepChecks.{weightFault}
 use Rattle.varcoef_magnus_graph_checks.proofs.check_weights.Statement.{statement}
 use Rattle.varcoef_magnus_graph_checks.proofs.check_weights.Tie as tie
 

@@ -9,7 +9,7 @@ use Rattle.error.specs.Checks.{refuseIf}
 use Rattle.error.specs.declared.Refusal.the-variants.{Length}
 use Rattle.error.specs.declared.Checked.the-variants.{Refused}
 use Rattle.error.proofs.Checks.{refuses, accepts}
-use Rattle.varcoef_magnus_graph_checks.specs.WeightedStepChecks.{weightsLengthFault}
+use Rattle.varcoef_magnus_graph_faults.specs.WeightedStepChecks.{weightsLengthFault}
 use Rattle.varcoef_magnus_graph_checks.proofs.check_weights_length.Statement.{statement}
 use Rattle.varcoef_magnus_graph_checks.proofs.check_weights_length.Tie as tie
 

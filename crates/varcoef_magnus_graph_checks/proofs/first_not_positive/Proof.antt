@@ -7,7 +7,7 @@ use lib.ListN.{length}
 use borrow.Author.Needs.{needs}
 use borrow.Author.Tests.{not-true, not-false}
 use Rattle.graph_checks.proofs.First.{Passed, passed-none, passed-more, passed-found, passed-all}
-use Rattle.varcoef_magnus_graph_checks.specs.WeightedStepChecks.{notPositiveAt}
+use Rattle.varcoef_magnus_graph_faults.specs.WeightedStepChecks.{notPositiveAt}
 use Rattle.varcoef_magnus_graph_checks.proofs.first_not_positive.Statement.{statement}
 use Rattle.varcoef_magnus_graph_checks.proofs.first_not_positive.Tie as tie
 

@@ -5,7 +5,7 @@ use Rattle.scratch.proofs.Parts.{wrote}
 use Rattle.graph_scratch.proofs.WorkSlice.{lent-part}
 use Rattle.graph_traj_segment.specs.Laws.{lawValues}
 use Rattle.graph_traj_samples.proofs.Sampled.{length-values}
-use Rattle.varcoef_magnus_graph_checks.specs.WeightedStepChecks.{sampleWeightsFault}
+use Rattle.varcoef_magnus_graph_faults.specs.WeightedStepChecks.{sampleWeightsFault}
 use borrow.Author.Needs.{needs}
 use Rattle.varcoef_magnus_graph_traj_step.proofs.kernel.sample_weights.Statement.{statement}
 use Rattle.varcoef_magnus_graph_traj_step.proofs.kernel.sample_weights.Tie as tie

@@ -1,2 +1,0 @@
-pub mod AdjointRunChecks
-pub mod AcceptedAdjointRun

@@ -1,0 +1,2 @@
+pub mod AcceptedAdjointRun
+pub mod AdjointRunChecks

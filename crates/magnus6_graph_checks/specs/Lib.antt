@@ -1,2 +1,0 @@
-pub mod Step6Checks
-pub mod AcceptedStep6

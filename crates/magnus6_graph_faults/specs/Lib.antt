@@ -1,0 +1,2 @@
+pub mod AcceptedStep6
+pub mod Step6Checks

@@ -1,2 +1,0 @@
-pub mod StepChecks
-pub mod AcceptedStep

@@ -1,0 +1,2 @@
+pub mod AcceptedStep
+pub mod StepChecks

@@ -1,0 +1,3 @@
+pub mod SignBit
+pub mod Square
+pub mod Verified

@@ -1,2 +1,0 @@
-pub mod WeightedStepChecks
-pub mod AcceptedWeightedStep

@@ -1,0 +1,2 @@
+pub mod AcceptedWeightedStep
+pub mod WeightedStepChecks
