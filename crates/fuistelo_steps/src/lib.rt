@@ -1,7 +1,7 @@
 // For programs in C and Rust: the steps of order 4 and the step of order 6. Each function makes one call and gives back its
 // answer as a struct; a slice is a pointer and a length to such a program. include/fuistelo.h declares the functions.
 ghost use Rattle.magnus_graph_faults.specs.StepChecks.{sample};
-ghost use Rattle.magnus_graph.specs.StepOutcome.{stepInput, Stepped, forward, adjoint};
+ghost use Rattle.magnus_graph_outcome.specs.StepOutcome.{stepInput, Stepped, forward, adjoint};
 ghost use Rattle.magnus6_graph_outcome.specs.StepOutcome.{step6Input, Stepped6};
 ghost use Rattle.answer.specs.Struct.{Tells};
 use answer::Answer;

@@ -7,9 +7,9 @@ use lib.Ieee.{Float}
 use Rattle.scratch.specs.Parts.{zeros}
 use Rattle.error.specs.declared.Checked.{Checked}
 use Rattle.magnus_graph_faults.specs.StepChecks.{Sample, sample}
-use Rattle.magnus_graph.specs.StepOutcome.{StepInput, stepInput, Stepped, stepAnswer, stepOutput, forward, adjoint}
-use Rattle.varcoef_magnus_graph.specs.StepOutcome.{StepInput as WeightedInput, stepInput as weightedInput, Stepped as WeightedStepped}
-use Rattle.varcoef_magnus_graph.specs.StepOutcome.{stepAnswer as weightedAnswer, stepOutput as weightedOutput}
+use Rattle.magnus_graph_outcome.specs.StepOutcome.{StepInput, stepInput, Stepped, stepAnswer, stepOutput, forward, adjoint}
+use Rattle.varcoef_magnus_graph_outcome.specs.StepOutcome.{StepInput as WeightedInput, stepInput as weightedInput, Stepped as WeightedStepped}
+use Rattle.varcoef_magnus_graph_outcome.specs.StepOutcome.{stepAnswer as weightedAnswer, stepOutput as weightedOutput}
 use Rattle.magnus6_graph_outcome.specs.StepOutcome.{Step6Input, step6Input, Stepped6, step6Answer, step6Output}
 use Rattle.job_format.specs.JobFormat.{Job}
 use Rattle.job_step.specs.JobOutcome.{jobSign, jobStep, jobWeightedStep, jobStep6, jobStepAnswer, jobStepOutput}

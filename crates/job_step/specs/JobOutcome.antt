@@ -9,9 +9,9 @@ use Rattle.error.specs.Checks.{next}
 use Rattle.error.specs.Refusals.{Answers}
 use Rattle.error.specs.declared.Checked.{Checked}
 use Rattle.magnus_graph_faults.specs.StepChecks.{Sample, sample}
-use Rattle.magnus_graph.specs.StepOutcome.{StepInput, stepInput, stepAnswer, stepOutput, forward, adjoint}
-use Rattle.varcoef_magnus_graph.specs.StepOutcome.{StepInput as WeightedInput, stepInput as weightedInput}
-use Rattle.varcoef_magnus_graph.specs.StepOutcome.{stepAnswer as weightedAnswer, stepOutput as weightedOutput}
+use Rattle.magnus_graph_outcome.specs.StepOutcome.{StepInput, stepInput, stepAnswer, stepOutput, forward, adjoint}
+use Rattle.varcoef_magnus_graph_outcome.specs.StepOutcome.{StepInput as WeightedInput, stepInput as weightedInput}
+use Rattle.varcoef_magnus_graph_outcome.specs.StepOutcome.{stepAnswer as weightedAnswer, stepOutput as weightedOutput}
 use Rattle.magnus6_graph_outcome.specs.StepOutcome.{Step6Input, step6Input, step6Answer, step6Output}
 use Rattle.job_format.specs.JobFormat.{Job, jobOf, malformedFault}
 

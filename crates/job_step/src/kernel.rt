@@ -2,8 +2,8 @@
 ghost use mathlib.Core.Path.{_≡_};
 ghost use lib.ListN.{length};
 ghost use Rattle.scratch.specs.Parts.{zeros};
-ghost use Rattle.magnus_graph.specs.StepOutcome.{stepAnswer, stepOutput};
-ghost use Rattle.varcoef_magnus_graph.specs.StepOutcome.{stepAnswer as weightedAnswer, stepOutput as weightedOutput};
+ghost use Rattle.magnus_graph_outcome.specs.StepOutcome.{stepAnswer, stepOutput};
+ghost use Rattle.varcoef_magnus_graph_outcome.specs.StepOutcome.{stepAnswer as weightedAnswer, stepOutput as weightedOutput};
 ghost use Rattle.magnus6_graph_outcome.specs.StepOutcome.{step6Answer, step6Output};
 ghost use Rattle.job_format.specs.JobFormat.{jobNodes, jobRowStarts, jobColumns, jobWeights1, jobWeights2, jobOf};
 ghost use Rattle.job_step.specs.JobOutcome.{jobSign, jobStep, jobWeightedStep, jobStep6, jobStepAnswer, jobStepOutput};

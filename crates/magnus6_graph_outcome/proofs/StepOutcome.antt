@@ -23,8 +23,8 @@ use Rattle.magnus_graph_faults.specs.StepChecks.{Sample}
 use Rattle.magnus6_graph_faults.specs.AcceptedStep6.{AcceptedStep6}
 use Rattle.magnus_graph_faults.proofs.StepSound.{refused-not-accepted}
 use Rattle.magnus6_graph_faults.proofs.Step6Sound.{step6-accepted}
-use Rattle.magnus_graph.specs.StepOutcome.{StepInput}
-use Rattle.magnus_graph.proofs.StepOutcome.{valued}
+use Rattle.magnus_graph_outcome.specs.StepOutcome.{StepInput}
+use Rattle.magnus_graph_outcome.proofs.StepOutcome.{valued}
 use Rattle.magnus6_graph_helpers.specs.Omega6Step.{expOmega6}
 use Rattle.magnus6_graph_outcome.specs.StepOutcome.{Step6Input, step6Answer, Stepped6}
 

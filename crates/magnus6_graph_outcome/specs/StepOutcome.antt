@@ -22,7 +22,7 @@ use Rattle.magnus.specs.Formed.{FormedOperator, formedProduct}
 use Rattle.magnus.specs.FormedOmega6.{formedStep6}
 use Rattle.magnus_graph_faults.specs.StepChecks.{Sample}
 use Rattle.magnus6_graph_faults.specs.Step6Checks.{step6Fault}
-use Rattle.magnus_graph.specs.StepOutcome.{StepInput, stepInput}
+use Rattle.magnus_graph_outcome.specs.StepOutcome.{StepInput, stepInput}
 use Rattle.magnus6_graph_helpers.specs.Omega6Step.{expOmega6}
 
 -- what a caller lends to a step of order 6: what it lends to one of order 4, and a third sample

@@ -1,7 +1,7 @@
 // Steps of order 4 (magnus_graph.rs, magnus_graph_helpers.rs, magnus_graph_adjoint.rs; 01, parts 6 and 8). A step takes two samples, each
 // with its own n, row starts, columns and values.
 ghost use Rattle.magnus_graph_faults.specs.StepChecks.{sample};
-ghost use Rattle.magnus_graph.specs.StepOutcome.{stepInput, Stepped, forward, adjoint};
+ghost use Rattle.magnus_graph_outcome.specs.StepOutcome.{stepInput, Stepped, forward, adjoint};
 use error::Checked;
 use magnus_graph_checks::check_step;
 use magnus_graph_step::kernel::step4;

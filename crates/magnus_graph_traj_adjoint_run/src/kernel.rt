@@ -4,7 +4,7 @@ ghost use Prim.Native.Nat.{_≤_};
 ghost use lib.ListN.{length};
 ghost use Rattle.graph_traj_parts.specs.Trajectory.{trajectory, AcceptedTrajectory};
 ghost use Rattle.graph_traj_faults.specs.RunChecks.{runNeed};
-ghost use Rattle.magnus_graph.specs.StepOutcome.{adjoint};
+ghost use Rattle.magnus_graph_outcome.specs.StepOutcome.{adjoint};
 ghost use Rattle.magnus_graph_traj_steps.specs.RunSteps.{segmentSteps, adjointCourse};
 ghost use Rattle.magnus_graph_traj_steps.specs.StepsTaken.{RunStepsTaken};
 use error::Checked;

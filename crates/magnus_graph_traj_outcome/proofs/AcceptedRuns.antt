@@ -13,7 +13,7 @@ use Rattle.arithmetic.specs.Vector.{tabulate}
 use Rattle.error.specs.declared.Checked.{Checked}
 use Rattle.error.specs.declared.Checked.the-variants.{Accepted}
 use Rattle.magnus.specs.Agree.{OfFormat}
-use Rattle.magnus_graph.specs.StepOutcome.{forward, adjoint}
+use Rattle.magnus_graph_outcome.specs.StepOutcome.{forward, adjoint}
 use Rattle.graph_traj_segment.specs.Times.{segmentTau}
 use Rattle.graph_traj_parts.specs.Trajectory.{Trajectory}
 use Rattle.graph_traj_faults.specs.AcceptedRun.{AcceptedRun}

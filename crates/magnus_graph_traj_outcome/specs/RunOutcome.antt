@@ -15,7 +15,7 @@ use Rattle.error.specs.Checks.{next, ifAccepted}
 use Rattle.error.specs.Refusals.{Answers}
 use Rattle.magnus.specs.Formed.{FormedOperator}
 use Rattle.magnus.specs.Run.{runAlong, everyStep, formedAlong}
-use Rattle.magnus_graph.specs.StepOutcome.{forward, adjoint}
+use Rattle.magnus_graph_outcome.specs.StepOutcome.{forward, adjoint}
 use Rattle.graph_traj_parts.specs.Trajectory.{Trajectory}
 use Rattle.graph_traj_faults.specs.RunChecks.{runNeed, runFault}
 use Rattle.graph_traj_adjoint_faults.specs.AdjointRunChecks.{adjointRunFault}

@@ -4,7 +4,7 @@ ghost use Prim.Native.Nat.{_≤_, _<_};
 ghost use lib.ListN.{length};
 ghost use Rattle.graph_traj_parts.specs.Trajectory.{trajectory, AcceptedTrajectory};
 ghost use Rattle.graph_traj_faults.specs.RunChecks.{runNeed};
-ghost use Rattle.magnus_graph.specs.StepOutcome.{forward};
+ghost use Rattle.magnus_graph_outcome.specs.StepOutcome.{forward};
 ghost use Rattle.magnus_graph_traj_steps.specs.RunSteps.{segmentSteps, allSteps, forwardCourse};
 ghost use Rattle.magnus_graph_traj_steps.specs.StepsTaken.{RunStepsTaken};
 ghost use Rattle.magnus_graph_traj_run.specs.StepAt.{StepAt};

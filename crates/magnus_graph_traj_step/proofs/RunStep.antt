@@ -28,7 +28,7 @@ use Rattle.magnus.specs.Operators.{Operator, omega4}
 use Rattle.magnus.specs.Coefficients.{reciprocalFactorial}
 use Rattle.magnus_graph_helpers.specs.Terms.{omega4Sum, TermAdded, TermsAdded}
 use Rattle.magnus_graph_faults.proofs.StepSound.{refused-not-accepted}
-use Rattle.magnus_graph.specs.Omega4.{sqrt3Over12}
+use Rattle.magnus_graph_outcome.specs.Omega4.{sqrt3Over12}
 use Rattle.magnus_graph_step.specs.Omega4.{expOmega4}
 use Rattle.graph_traj_segment.specs.Laws.{lawValues, byLaw, valuesAt, lawList}
 use Rattle.graph_traj_segment.proofs.Laws.{law-values}

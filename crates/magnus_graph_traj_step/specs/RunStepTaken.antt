@@ -10,7 +10,7 @@ use Rattle.error.specs.Checks.{next}
 use Rattle.error.specs.declared.Checked.{Checked}
 use Rattle.error.specs.declared.Checked.the-variants.{Accepted}
 use Rattle.graph_rows.specs.RowProduct.{rowProduct64}
-use Rattle.magnus_graph.specs.Omega4.{sqrt3Over12}
+use Rattle.magnus_graph_outcome.specs.Omega4.{sqrt3Over12}
 use Rattle.magnus_graph_step.specs.Omega4.{expOmega4}
 use Rattle.graph_traj_segment.specs.Laws.{valuesAt}
 use Rattle.graph_traj_samples.specs.Sampled.{sampledFault}

@@ -18,7 +18,7 @@ ghost use Rattle.graph_rows.specs.RowProduct.{rowProduct64};
 ghost use Rattle.magnus.specs.Operators.{omega4};
 ghost use Rattle.magnus.specs.Coefficients.{reciprocalFactorial};
 ghost use Rattle.magnus_graph_helpers.specs.Terms.{TermAdded, TermsAdded};
-ghost use Rattle.magnus_graph.specs.Omega4.{sqrt3Over12};
+ghost use Rattle.magnus_graph_outcome.specs.Omega4.{sqrt3Over12};
 ghost use Rattle.graph_pairs.specs.Pairs.{firsts, seconds};
 ghost use Rattle.magnus_graph_traj_step.specs.RunStepTaken.{RunStepTaken};
 use error::Checked;

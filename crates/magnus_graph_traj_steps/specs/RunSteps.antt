@@ -11,7 +11,7 @@ use Rattle.error.specs.Checks.{next}
 use Rattle.error.specs.declared.Checked.{Checked}
 use Rattle.error.specs.declared.Checked.the-variants.{Accepted}
 use Rattle.graph_rows.specs.RowProduct.{rowProduct64}
-use Rattle.magnus_graph.specs.Omega4.{sqrt3Over12}
+use Rattle.magnus_graph_outcome.specs.Omega4.{sqrt3Over12}
 use Rattle.magnus_graph_step.specs.Omega4.{expOmega4}
 use Rattle.graph_traj_segment.specs.Laws.{fraction, valuesAt}
 use Rattle.graph_traj_breakpoints.specs.Breakpoints.{breakpoint}

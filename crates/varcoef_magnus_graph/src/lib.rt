@@ -1,8 +1,8 @@
 // Steps of order 4 on graphs with node weights (varcoef_magnus_graph.rs; 01, parts 7 and 8): a step takes two samples, each with its own n, row
 // starts, columns and values, and the weights a1 and a2 of the nodes at the two sample times.
-ghost use Rattle.magnus_graph.specs.StepOutcome.{forward, adjoint};
+ghost use Rattle.magnus_graph_outcome.specs.StepOutcome.{forward, adjoint};
 ghost use Rattle.magnus_graph_faults.specs.StepChecks.{sample};
-ghost use Rattle.varcoef_magnus_graph.specs.StepOutcome.{stepInput, Stepped};
+ghost use Rattle.varcoef_magnus_graph_outcome.specs.StepOutcome.{stepInput, Stepped};
 use error::Checked;
 use varcoef_magnus_graph_checks::check_weighted_step;
 use varcoef_magnus_graph_step::kernel::step4_la;

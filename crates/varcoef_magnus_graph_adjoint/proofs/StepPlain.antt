@@ -8,8 +8,8 @@ use Rattle.magnus.specs.Agree.{OfFormat}
 use Rattle.magnus.proofs.Agree.{agree-same}
 use Rattle.magnus.proofs.Formed.{and-is}
 use Rattle.magnus.proofs.PlainSum.{weighted-samples-plain-sum}
-use Rattle.varcoef_magnus_graph.specs.WeightedOmega4.{sqrt3Over12}
-use Rattle.varcoef_magnus_graph.proofs.RootsAgree.{roots-same-list}
+use Rattle.varcoef_magnus_graph_outcome.specs.WeightedOmega4.{sqrt3Over12}
+use Rattle.varcoef_magnus_graph_outcome.proofs.RootsAgree.{roots-same-list}
 use Rattle.graph_traj_segment.specs.Times.{c1, c2}
 use Rattle.graph_traj_parts.specs.Trajectory.{Trajectory}
 use Rattle.magnus_graph_traj_steps.specs.RunSteps.{RunStep, Course}

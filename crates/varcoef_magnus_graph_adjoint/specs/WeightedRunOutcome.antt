@@ -5,7 +5,7 @@ use mathlib.Core.List.{List}
 use Prim.Native.Nat.{ℕ}
 use lib.ListN.{length}
 use lib.Ieee.{Float}
-use Rattle.magnus_graph.specs.StepOutcome.{adjoint}
+use Rattle.magnus_graph_outcome.specs.StepOutcome.{adjoint}
 use Rattle.graph_traj_parts.specs.Trajectory.{Trajectory}
 use Rattle.graph_traj_adjoint_faults.specs.AdjointRunChecks.{weightedRunNeed, weightedAdjointRunFault}
 use Rattle.magnus_graph_traj_steps.specs.RunSteps.{Course, adjointCourse}

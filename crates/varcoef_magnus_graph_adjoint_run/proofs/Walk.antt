@@ -21,11 +21,11 @@ use Rattle.graph_rows.specs.RowProduct.{rowProduct64}
 use Rattle.magnus.specs.Run.{runAlong}
 use Rattle.magnus.specs.Operators.{taylor}
 use Rattle.magnus.specs.Coefficients.{reciprocalFactorial}
-use Rattle.magnus_graph.specs.StepOutcome.{adjoint}
+use Rattle.magnus_graph_outcome.specs.StepOutcome.{adjoint}
 use Rattle.varcoef_magnus_graph_faults.specs.WeightedStepChecks.{sampleWeightsFault, weightFault}
 use Rattle.magnus_graph_helpers.specs.Terms.{TermsAdded}
 use Rattle.magnus_graph_faults.proofs.StepSound.{refused-not-accepted}
-use Rattle.varcoef_magnus_graph.specs.WeightedOmega4.{sqrt3Over12}
+use Rattle.varcoef_magnus_graph_outcome.specs.WeightedOmega4.{sqrt3Over12}
 use Rattle.varcoef_magnus_graph_step.specs.WeightedOmega4.{weightedOmega4}
 use Rattle.graph_traj_segment.specs.declared.kernel.Segment.{Segment}
 use Rattle.graph_traj_segment.specs.Laws.{fraction, lawValues}

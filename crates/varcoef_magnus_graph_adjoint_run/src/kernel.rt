@@ -4,7 +4,7 @@ ghost use mathlib.Core.Path.{_≡_};
 ghost use Prim.Native.Nat.{_+_, _*_, _≤_, _<_};
 ghost use lib.ListN.{length};
 ghost use Rattle.graph_checks.specs.Pattern.{Pattern, ValuedPattern};
-ghost use Rattle.magnus_graph.specs.StepOutcome.{adjoint};
+ghost use Rattle.magnus_graph_outcome.specs.StepOutcome.{adjoint};
 ghost use Rattle.varcoef_magnus_graph_faults.specs.WeightedStepChecks.{weightFault};
 ghost use Rattle.graph_traj_segment.specs.Laws.{fraction, lawValues};
 ghost use Rattle.graph_traj_segment.specs.Times.{c1, c2, adjointStepStart, sampleTime};

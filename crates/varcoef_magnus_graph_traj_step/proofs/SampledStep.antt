@@ -22,11 +22,11 @@ use Rattle.graph_pairs.specs.Pairs.{firsts, seconds}
 use Rattle.magnus.specs.Operators.{weighted}
 use Rattle.magnus.specs.Coefficients.{reciprocalFactorial}
 use Rattle.magnus_graph_step.specs.Omega4.{expOmega4}
-use Rattle.magnus_graph.specs.StepOutcome.{adjoint}
+use Rattle.magnus_graph_outcome.specs.StepOutcome.{adjoint}
 use Rattle.varcoef_magnus_graph_faults.specs.WeightedStepChecks.{sampleWeightsFault, weightFault}
 use Rattle.magnus_graph_helpers.specs.Terms.{TermsAdded}
 use Rattle.magnus_graph_faults.proofs.StepSound.{refused-not-accepted}
-use Rattle.varcoef_magnus_graph.specs.WeightedOmega4.{sqrt3Over12}
+use Rattle.varcoef_magnus_graph_outcome.specs.WeightedOmega4.{sqrt3Over12}
 use Rattle.graph_traj_segment.specs.Laws.{lawValues}
 use Rattle.graph_traj_samples.specs.Sampled.{sampledFault}
 use Rattle.varcoef_magnus_graph_traj_step.specs.StepTaken.{Kept, StepTaken}

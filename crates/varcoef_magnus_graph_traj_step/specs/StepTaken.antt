@@ -14,9 +14,9 @@ use Rattle.error.specs.declared.Checked.the-variants.{Accepted}
 use Rattle.graph_rows.specs.RowProduct.{rowProduct64}
 use Rattle.magnus.specs.Operators.{weighted}
 use Rattle.magnus_graph_step.specs.Omega4.{expOmega4}
-use Rattle.magnus_graph.specs.StepOutcome.{adjoint}
+use Rattle.magnus_graph_outcome.specs.StepOutcome.{adjoint}
 use Rattle.varcoef_magnus_graph_faults.specs.WeightedStepChecks.{weightFault}
-use Rattle.varcoef_magnus_graph.specs.WeightedOmega4.{sqrt3Over12}
+use Rattle.varcoef_magnus_graph_outcome.specs.WeightedOmega4.{sqrt3Over12}
 use Rattle.graph_traj_samples.specs.Sampled.{sampledFault}
 
 -- the work slice w, now w′, is as long as it was, and the same from index `need` on

@@ -16,7 +16,7 @@ use Rattle.error.specs.Checks.{next}
 use Rattle.error.specs.declared.Checked.{Checked}
 use Rattle.error.specs.declared.Checked.the-variants.{Accepted}
 use Rattle.graph_shape.proofs.First.{accepts-none}
-use Rattle.magnus_graph.specs.StepOutcome.{adjoint}
+use Rattle.magnus_graph_outcome.specs.StepOutcome.{adjoint}
 use Rattle.varcoef_magnus_graph_faults.specs.WeightedStepChecks.{weightFault}
 use Rattle.graph_traj_segment.specs.Laws.{lawValues, byLaw, valuesAt, lawList}
 use Rattle.graph_traj_segment.proofs.Laws.{law-values}

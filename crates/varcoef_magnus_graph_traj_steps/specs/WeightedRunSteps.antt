@@ -11,7 +11,7 @@ use Rattle.error.specs.declared.Checked.{Checked}
 use Rattle.magnus.specs.Operators.{weighted}
 use Rattle.magnus_graph_step.specs.Omega4.{expOmega4}
 use Rattle.varcoef_magnus_graph_faults.specs.WeightedStepChecks.{weightFault}
-use Rattle.varcoef_magnus_graph.specs.WeightedOmega4.{sqrt3Over12}
+use Rattle.varcoef_magnus_graph_outcome.specs.WeightedOmega4.{sqrt3Over12}
 use Rattle.graph_traj_segment.specs.Laws.{valuesAt}
 use Rattle.graph_traj_segment.specs.Times.{c1, c2}
 use Rattle.graph_traj_parts.specs.Trajectory.{Trajectory}

@@ -11,7 +11,7 @@ use Rattle.scratch.specs.Parts.{part}
 use Rattle.scratch.proofs.Parts.{part-whole}
 use Rattle.error.specs.declared.Checked.{Checked}
 use Rattle.error.specs.declared.Checked.the-variants.{Accepted}
-use Rattle.magnus_graph.specs.StepOutcome.{adjoint}
+use Rattle.magnus_graph_outcome.specs.StepOutcome.{adjoint}
 use Rattle.graph_traj_parts.specs.Trajectory.{Trajectory, trajectory}
 use Rattle.graph_traj_adjoint_faults.specs.AcceptedAdjointRun.{AcceptedWeightedAdjointRun}
 use Rattle.graph_traj_adjoint_faults.proofs.AdjointRunSound.{weighted-adjoint-run-accepted}

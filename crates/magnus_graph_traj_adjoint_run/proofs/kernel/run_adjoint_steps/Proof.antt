@@ -2,7 +2,7 @@
 -- nothing.
 use Prim.Native.Nat.{_-_}
 use native.Mathlib.Omega.{arith}
-use Rattle.magnus_graph.specs.StepOutcome.{adjoint}
+use Rattle.magnus_graph_outcome.specs.StepOutcome.{adjoint}
 use Rattle.graph_traj_parts.specs.Trajectory.{Trajectory, trajectory}
 use Rattle.magnus_graph_traj_steps.specs.RunSteps.{adjointCourse}
 use Rattle.magnus_graph_traj_steps.proofs.Walk.{steps-begin, steps-end, steps-on, steps-stop}

@@ -1,7 +1,7 @@
 -- `run_all_segments` meets its contract: each turn takes the steps of the next segment. Assumes nothing.
 use Prim.Native.Nat.{_-_}
 use native.Mathlib.Omega.{arith}
-use Rattle.magnus_graph.specs.StepOutcome.{forward}
+use Rattle.magnus_graph_outcome.specs.StepOutcome.{forward}
 use Rattle.graph_traj_parts.specs.Trajectory.{trajectory}
 use Rattle.graph_traj_faults.specs.RunChecks.{runNeed}
 use Rattle.magnus_graph_traj_steps.specs.RunSteps.{segmentSteps, allSteps, forwardCourse, runStepFault, runStepImage}

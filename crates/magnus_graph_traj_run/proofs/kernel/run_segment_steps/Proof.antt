@@ -2,7 +2,7 @@
 -- nothing.
 use Prim.Native.Nat.{_-_}
 use native.Mathlib.Omega.{arith}
-use Rattle.magnus_graph.specs.StepOutcome.{forward}
+use Rattle.magnus_graph_outcome.specs.StepOutcome.{forward}
 use Rattle.graph_traj_parts.specs.Trajectory.{Trajectory, trajectory}
 use Rattle.graph_traj_faults.specs.RunChecks.{tauOf}
 use Rattle.magnus_graph_traj_steps.specs.RunSteps.{forwardCourse}

@@ -8,7 +8,7 @@ use Rattle.arithmetic.specs.Arithmetic.{ieee}
 use Rattle.graph_rows.specs.RowProduct.{rowProduct64}
 use Rattle.magnus.specs.Operators.{omega4}
 use Rattle.magnus.specs.Coefficients.{reciprocalFactorial}
-use Rattle.magnus_graph.specs.Omega4.{sqrt3Over12}
+use Rattle.magnus_graph_outcome.specs.Omega4.{sqrt3Over12}
 use Rattle.magnus_graph_helpers.proofs.Terms.{TermsTurn, turns-none, turns-next, turns-all}
 use Rattle.magnus_graph_traj_step.proofs.kernel.constant_taylor4.Statement.{statement}
 use Rattle.magnus_graph_traj_step.proofs.kernel.constant_taylor4.Tie as tie

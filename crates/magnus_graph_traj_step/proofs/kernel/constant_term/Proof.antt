@@ -7,7 +7,7 @@ use Rattle.rounding.specs.StepLength.{minusHalf}
 use Rattle.arithmetic.specs.Arithmetic.{ieee}
 use Rattle.arithmetic.proofs.Tabulate.{length-tabulate}
 use Rattle.graph_rows.specs.RowProduct.{rowProduct64}
-use Rattle.magnus_graph.specs.Omega4.{sqrt3Over12}
+use Rattle.magnus_graph_outcome.specs.Omega4.{sqrt3Over12}
 use Rattle.magnus_graph_helpers.proofs.Terms.{product-placed, room-left, term4-constant-added}
 use borrow.Author.Needs.{needs}
 use Rattle.magnus_graph_traj_step.proofs.kernel.constant_term.Statement.{statement}

@@ -23,7 +23,7 @@ use Rattle.magnus.specs.Formed.{FormedOperator, formedProduct, formedWeighted, 
 use Rattle.magnus_graph_step.specs.Omega4.{expOmega4}
 use Rattle.magnus_graph_faults.specs.StepChecks.{Sample}
 use Rattle.varcoef_magnus_graph_faults.specs.WeightedStepChecks.{weightedStepFault}
-use Rattle.varcoef_magnus_graph.specs.WeightedOmega4.{sqrt3Over12}
+use Rattle.varcoef_magnus_graph_outcome.specs.WeightedOmega4.{sqrt3Over12}
 
 -- what a caller lends to a weighted step
 pub record StepInput : Type 0 where

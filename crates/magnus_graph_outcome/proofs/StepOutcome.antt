@@ -19,10 +19,10 @@ use Rattle.magnus.specs.Operators.{plainSum}
 use Rattle.magnus.specs.Coefficients.{reciprocalFactorial}
 use Rattle.magnus.specs.Agree.{OfFormat}
 use Rattle.magnus.proofs.PlainSum.{samples-plain-sum}
-use Rattle.magnus_graph.specs.Omega4.{sqrt3Over12}
+use Rattle.magnus_graph_outcome.specs.Omega4.{sqrt3Over12}
 use Rattle.magnus_graph_step.specs.Omega4.{expOmega4}
 use Rattle.magnus_graph_faults.specs.AcceptedStep.{StepInputs}
-use Rattle.magnus_graph.specs.StepOutcome.{StepInput, stepAnswer, Stepped}
+use Rattle.magnus_graph_outcome.specs.StepOutcome.{StepInput, stepAnswer, Stepped}
 use Rattle.magnus_graph_faults.proofs.StepSound.{refused-not-accepted, step-accepted}
 
 -- a Laplacian on n nodes, for a kernel that counts the nodes by the signal's length

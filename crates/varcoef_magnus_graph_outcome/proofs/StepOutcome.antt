@@ -23,12 +23,12 @@ use Rattle.magnus.specs.Agree.{OfFormat}
 use Rattle.magnus.proofs.Agree.{agree-same}
 use Rattle.magnus.proofs.PlainSum.{weighted-samples-plain-sum}
 use Rattle.magnus_graph_step.specs.Omega4.{expOmega4}
-use Rattle.magnus_graph.proofs.StepOutcome.{valued}
+use Rattle.magnus_graph_outcome.proofs.StepOutcome.{valued}
 use Rattle.varcoef_magnus_graph_faults.specs.AcceptedWeightedStep.{AcceptedWeightedStep}
 use Rattle.varcoef_magnus_graph_faults.proofs.WeightedStepSound.{weighted-step-accepted}
-use Rattle.varcoef_magnus_graph.specs.WeightedOmega4.{sqrt3Over12}
-use Rattle.varcoef_magnus_graph.specs.StepOutcome.{StepInput, stepAnswer, Stepped}
-use Rattle.varcoef_magnus_graph.proofs.RootsAgree.{roots-same-list}
+use Rattle.varcoef_magnus_graph_outcome.specs.WeightedOmega4.{sqrt3Over12}
+use Rattle.varcoef_magnus_graph_outcome.specs.StepOutcome.{StepInput, stepAnswer, Stepped}
+use Rattle.varcoef_magnus_graph_outcome.proofs.RootsAgree.{roots-same-list}
 
 module _ (sign : Float) (s : StepInput) {check : Checked} (made : check ≡ stepAnswer sign s) where
   -- the check refused

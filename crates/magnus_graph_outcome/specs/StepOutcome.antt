@@ -19,7 +19,7 @@ use Rattle.magnus.specs.Operators.{plainSum}
 use Rattle.magnus.specs.Coefficients.{reciprocalFactorial}
 use Rattle.magnus.specs.Agree.{SamplesAgree}
 use Rattle.magnus.specs.Formed.{formedProduct, formedStep4}
-use Rattle.magnus_graph.specs.Omega4.{sqrt3Over12}
+use Rattle.magnus_graph_outcome.specs.Omega4.{sqrt3Over12}
 use Rattle.magnus_graph_step.specs.Omega4.{expOmega4}
 use Rattle.magnus_graph_faults.specs.StepChecks.{Sample, stepFault}
 

@@ -1,2 +1,0 @@
-pub mod WeightedOmega4
-pub mod StepOutcome

@@ -1,0 +1,2 @@
+pub mod StepOutcome
+pub mod WeightedOmega4
