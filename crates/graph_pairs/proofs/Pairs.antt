@@ -58,14 +58,19 @@ module _ {K : Type 0} (A : Arithmetic K) where
   pub at-seconds : (n : ℕ) (x : List K) (i : ℕ) → i < n → at A (seconds A n x) i ≡ at A x (2 *ℕ i +ℕ 1)
   at-seconds n x i h = at-tabulate A _ n i h
 
+  -- the first and the second element of pair i
+  pub first-of-pair : (n : ℕ) (f g : ℕ → K) (i : ℕ) → i < n → at A (pairs n f g) (2 *ℕ i) ≡ f i
+  first-of-pair n f g i h = at-tabulate A (alternate f g) (2 *ℕ n) (2 *ℕ i) (omega arith) ∙ alternate-first f g i
+
+  pub second-of-pair : (n : ℕ) (f g : ℕ → K) (i : ℕ) → i < n → at A (pairs n f g) (2 *ℕ i +ℕ 1) ≡ g i
+  second-of-pair n f g i h = at-tabulate A (alternate f g) (2 *ℕ n) (2 *ℕ i +ℕ 1) (omega arith) ∙ alternate-second f g i
+
   -- the vectors that were written as pairs
   pub firsts-of-pairs : (n : ℕ) (f g : ℕ → K) → firsts A n (pairs n f g) ≡ tabulate f n
-  firsts-of-pairs n f g =
-      tabulate-same _ _ n (λ i h. at-tabulate A (alternate f g) (2 *ℕ n) (2 *ℕ i) (omega arith) ∙ alternate-first f g i)
+  firsts-of-pairs n f g = tabulate-same _ _ n (first-of-pair n f g)
 
   pub seconds-of-pairs : (n : ℕ) (f g : ℕ → K) → seconds A n (pairs n f g) ≡ tabulate g n
-  seconds-of-pairs n f g =
-      tabulate-same _ _ n (λ i h. at-tabulate A (alternate f g) (2 *ℕ n) (2 *ℕ i +ℕ 1) (omega arith) ∙ alternate-second f g i)
+  seconds-of-pairs n f g = tabulate-same _ _ n (second-of-pair n f g)
 
   -- one entry more of a row, from its value and its signal, wherever they were read
   pub entry-added : (cols : List ℕ) (vals x : List K) (lo k : ℕ) (acc value signal : K)

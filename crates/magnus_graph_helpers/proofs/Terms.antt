@@ -197,8 +197,15 @@ module _ {K : Type 0} (A : Arithmetic K) (n : ℕ) where
   -- ---- a loop that adds the terms
 
   -- the signal, the vector at 0, was copied to n
-  signal-copied : (w w₁ : List K) → 2 *ℕ n ≤ length w → w₁ ≡ put n (part 0 n w) w → Wrote n n (part 0 n w) w w₁
+  pub signal-copied : (w w₁ : List K) → 2 *ℕ n ≤ length w → w₁ ≡ put n (part 0 n w) w → Wrote n n (part 0 n w) w w₁
   signal-copied w w₁ room e = wrote n n (part 0 n w) w w₁ (length-part 0 n w (omega arith)) (omega arith) e
+
+  -- nothing from index `used` on was written
+  pub copied-rest : (used : ℕ) (w w₁ : List K) → 2 *ℕ n ≤ length w → 2 *ℕ n ≤ used → w₁ ≡ put n (part 0 n w) w
+      → (j : ℕ)
+      → used ≤ j
+      → drop j w₁ ≡ drop j w
+  copied-rest used w w₁ room within e j h = signal-copied w w₁ room e .rest j (omega arith)
 
   -- k of d turns have added the terms up to Wᵏv
   pub record TermsTurn (used : ℕ) (c : ℕ → K) (d : ℕ) (W : Operator A n) (w₀ : List K) (k : ℕ) (w : List K) : Type 0 where
@@ -230,7 +237,25 @@ module _ {K : Type 0} (A : Arithmetic K) (n : ℕ) where
               (terms-next used c W w₀ k coefficient w w′ (before .terms) (e ∙ ap c (sym next)) term);
         }
 
-    -- after them the sum of the signal's terms is formed
+    -- After them the sum of the signal's terms is formed. Before them w became w₁, which has the same signal, with what else the terms want.
+    pub turns-done : {d : ℕ} {W : Operator A n} {k : ℕ} (w w₁ : List K) {w₂ : List K}
+        → part 0 n w₁ ≡ part 0 n w
+        → length w₁ ≡ length w
+        → ((j : ℕ) → used ≤ j → drop j w₁ ≡ drop j w)
+        → TermsTurn used c d W w₁ k w₂
+        → d ≤ k
+        → TermsAdded A n used c d W w w₂
+    turns-done {d} {W} {k} w w₁ {w₂} signal kept rest before last =
+        let all : k ≡ d = let turns = before .turns in omega arith in
+        let terms = subst (λ j. TermsAdded A n used c j W w₁ w₂) all (before .terms) in
+        record {
+          sum = terms .sum ∙ ap (taylor A n c d W) signal;
+          image = terms .image ∙ ap (power A n W d) signal;
+          length-kept = terms .length-kept ∙ kept;
+          rest = λ j h. terms .rest j h ∙ rest j h;
+        }
+
+    -- the signal was only copied
     pub turns-all : {d : ℕ} {W : Operator A n} {k : ℕ} (w w₁ : List K) {w₂ : List K}
         → 2 *ℕ n ≤ length w
         → 2 *ℕ n ≤ used
@@ -238,17 +263,23 @@ module _ {K : Type 0} (A : Arithmetic K) (n : ℕ) where
         → TermsTurn used c d W w₁ k w₂
         → d ≤ k
         → TermsAdded A n used c d W w w₂
-    turns-all {d} {W} {k} w w₁ {w₂} room within e before last =
-        let all : k ≡ d = let turns = before .turns in omega arith in
-        let terms = subst (λ j. TermsAdded A n used c j W w₁ w₂) all (before .terms) in
+    turns-all w w₁ room within e before last =
         let written = signal-copied w w₁ room e in
-        let signal = written .apart 0 (omega arith) in
-        record {
-          sum = terms .sum ∙ ap (taylor A n c d W) signal;
-          image = terms .image ∙ ap (power A n W d) signal;
-          length-kept = terms .length-kept ∙ written .length-kept;
-          rest = λ j h. terms .rest j h ∙ written .rest j (omega arith);
-        }
+        turns-done w w₁ (written .apart 0 (omega arith)) (written .length-kept) (copied-rest used w w₁ room within e) before last
+
+  -- ---- the same terms of an operator that is said otherwise
+
+  pub term-same : {used : ℕ} {coefficient : K} {w w′ : List K} {W W′ : Operator A n}
+      → W ≡ W′
+      → TermAdded A n used W coefficient w w′
+      → TermAdded A n used W′ coefficient w w′
+  term-same {used} {coefficient} {w} {w′} e = subst (λ W. TermAdded A n used W coefficient w w′) e
+
+  pub terms-same : {used : ℕ} {c : ℕ → K} {d : ℕ} {w w′ : List K} {W W′ : Operator A n}
+      → W ≡ W′
+      → TermsAdded A n used c d W w w′
+      → TermsAdded A n used c d W′ w w′
+  terms-same {used} {c} {d} {w} {w′} e = subst (λ W. TermsAdded A n used c d W w w′) e
 
   -- ---- the step
 

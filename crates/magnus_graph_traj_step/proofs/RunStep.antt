@@ -108,30 +108,6 @@ module _ (n : ℕ) (rowStarts cols : List ℕ) where
         term-of-pairs A n (7 * n) minusHalf sqrt3Over12 sign τ (product1 w) (product2 w) _ _ w w₁ (omega arith) (omega arith) refl refl
         products coefficient w₂ w′ (image ∙ same) sum
 
-module _ (n : ℕ) where
-  -- a term, or terms, of an operator are those of the same operator
-  pub term-same : {used : ℕ} {coefficient : Float} {w w′ : List Float} {W W′ : Operator (ieee binary64) n}
-      → W ≡ W′
-      → TermAdded (ieee binary64) n used W coefficient w w′
-      → TermAdded (ieee binary64) n used W′ coefficient w w′
-  term-same {used} {coefficient} {w} {w′} e = subst (λ W. TermAdded (ieee binary64) n used W coefficient w w′) e
-
-  pub terms-same : {used : ℕ} {c : ℕ → Float} {d : ℕ} {w w′ : List Float} {W W′ : Operator (ieee binary64) n}
-      → W ≡ W′
-      → TermsAdded (ieee binary64) n used c d W w w′
-      → TermsAdded (ieee binary64) n used c d W′ w w′
-  terms-same {used} {c} {d} {w} {w′} e = subst (λ W. TermsAdded (ieee binary64) n used c d W w w′) e
-
--- copying the held signal to n writes nothing from 7n on
-pub copied-rest : (n : ℕ) (w w′ : List Float)
-    → 2 * n ≤ length w
-    → w′ ≡ put n (part 0 n w) w
-    → (j : ℕ)
-    → 7 * n ≤ j
-    → drop j w′ ≡ drop j w
-copied-rest n w w′ room e j h =
-    wrote n n (part 0 n w) w w′ (length-part 0 n w (omega arith)) (omega arith) e .rest j (omega arith)
-
 -- ---- the step under law 2
 
 module _ (n : ℕ) (rowStarts cols : List ℕ) (starts ends : List Float) (k : ℕ) (τ f1 f2 sign : Float) where

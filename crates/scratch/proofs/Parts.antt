@@ -1,6 +1,7 @@
 -- The laws of vectors that lie in one list, for elements of any type: what a vector is, element by element; what
 -- writing one vector leaves of the others and of the rest; vectors written over again. Assumes nothing.
 use mathlib.Core.Path.{_≡_, refl, sym, ap, _∙_}
+use mathlib.Core.Logic.{_⊎_, ⊎-elim}
 use mathlib.Core.List.{List, [], _∷_, _++_, map, append-assoc, append-nil}
 use Prim.Native.Nat.{ℕ, suc, _+_, _-_, _≤_, _<_}
 use native.Mathlib.Nat.{zero-add, add-zero, add-suc, suc-add}
@@ -21,6 +22,11 @@ module _ {A : Type 0} where
 
   pub getD-part : (at n : ℕ) (w : List A) (i : ℕ) (d : A) → i < n → getD (part at n w) i d ≡ getD w (at + i) d
   getD-part at n w i d h = getD-take n (drop at w) i d h ∙ getD-drop at w i d
+
+  -- an element of a vector that is what it was in w₀; its index k may be said otherwise, as at + 2 * i + 1 for at + (2 * i + 1)
+  pub getD-kept : (at n : ℕ) (w w₀ : List A) → part at n w ≡ part at n w₀ → (i : ℕ) → i < n → (k : ℕ) → k ≡ at + i → (d : A)
+      → getD w k d ≡ getD (part at n w₀) i d
+  getD-kept at n w w₀ kept i h k e d = ap (λ j. getD w j d) e ∙ sym (getD-part at n w i d h) ∙ ap (λ v. getD v i d) kept
 
   -- a vector by its elements
   pub part-elements : (at n : ℕ) (w : List A) (d : A) → at + n ≤ length w
@@ -114,6 +120,11 @@ module _ {A : Type 0} where
     | no l ↦ part-of-put-after b v w a n (omega arith)
   ]
 
+  -- a vector of any size, wholly before or after the one that is written
+  pub part-of-put-outside : (b : ℕ) (v w : List A) (a n : ℕ) → (a + n ≤ b) ⊎ (b + length v ≤ a)
+      → part a n (put b v w) ≡ part a n w
+  part-of-put-outside b v w a n h = ⊎-elim (part-of-put-before b v w a n) (part-of-put-after b v w a n) h
+
   -- an element after what is written
   pub getD-of-put-after : (b : ℕ) (v w : List A) (j : ℕ) (d : A) → b + length v ≤ j → getD (put b v w) j d ≡ getD w j d
   getD-of-put-after b v w j d h =
@@ -134,10 +145,11 @@ module _ {A : Type 0} where
       set-of-sets (set w b y) (suc b) v j x (λ i l e. h (i + 1) (omega arith) (omega arith))
       ∙ ap (λ (u : List A). sets u (suc b) v) (set-comm w b j y x (λ e. h 0 (omega arith) (omega arith)))
 
-  pub set-of-put-apart : (n a b : ℕ) (v w : List A) (i : ℕ) (x : A) → length v ≤ n → i < n → Apart n a b
-      → set (put b v w) (a + i) x ≡ put b v (set w (a + i) x)
+  pub set-of-put-outside : (b : ℕ) (v w : List A) (k : ℕ) (x : A) → (k < b) ⊎ (b + length v ≤ k)
+      → set (put b v w) k x ≡ put b v (set w k x)
   unfolding put
-  set-of-put-apart n a b v w i x e l h = set-of-sets w b v (a + i) x (λ j k p. omega arith)
+  set-of-put-outside b v w k x h =
+      set-of-sets w b v k x (λ i l p. ⊎-elim (λ before. omega arith) (λ after. omega arith) h)
 
   sets-of-sets : (w : List A) (at : ℕ) (u v : List A) → length u ≡ length v → sets (sets w at u) at v ≡ sets w at v
   sets-of-sets w at [] [] e = refl

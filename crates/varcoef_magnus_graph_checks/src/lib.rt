@@ -44,7 +44,7 @@ pub fn check_weights_length(n: usize, first: usize, second: usize) -> Checked
 }
 
 // Whether every weight is finite and above 0, by one walk over all of them.
-fn all_positive(weights: &[f64]) -> bool
+pub fn all_positive(weights: &[f64]) -> bool
     ensures { λ r. ⌜ r ≡ all (λ w. not (notPositive w)) (now (weights .entry)) ⌝ }
 {
     let mut passed = true;

@@ -1,2 +1,3 @@
-pub mod Behind
+pub mod Walks
+pub mod Formed
 pub mod WeightedPairs

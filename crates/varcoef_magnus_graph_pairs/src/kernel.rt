@@ -1,39 +1,19 @@
 // The walks of a weighted step whose two samples lie as pairs, for callers that have checked its arguments: the values, the roots of the
-// weights and the vectors of which one goes to each sample. A weighted product is r · (L (r · v)) at each place (01, part 5).
+// weights and the vectors of which one goes to each sample. A weighted product is r · (L (r · v)) at each place (01, part 5). A term of the
+// Taylor sum is two walks over the pattern, each of which also scales what it formed by the roots, as the next walk takes it.
 ghost use mathlib.Core.Path.{_≡_};
 ghost use Prim.Native.Nat.{_+_, _*_, _≤_};
 ghost use lib.ListN.{length};
 ghost use lib.Ieee.{binary64};
 ghost use Rattle.arithmetic.specs.Arithmetic.{ieee, multiplied};
+ghost use Rattle.arithmetic.specs.Product.{plusScaled};
 ghost use Rattle.scratch.specs.Parts.{part, put};
 ghost use Rattle.graph_checks.specs.Pattern.{Pattern};
 ghost use Rattle.graph_rows.specs.RowProduct.{rowProduct64};
 ghost use Rattle.graph_pairs.specs.Pairs.{firsts, seconds};
 ghost use Rattle.magnus_graph_helpers.specs.Terms.{omega4Sum};
-ghost use Rattle.varcoef_magnus_graph_pairs.specs.WeightedPairs.{rootPairs, scaledPairs, rootedPairs};
+ghost use Rattle.varcoef_magnus_graph_pairs.specs.WeightedPairs.{scaledPairs, rootedPairs, exchangedPairs};
 use graph_pairs::kernel::row_sums_of_two;
-use square_root::kernel::estimate;
-use square_root::kernel::root_near;
-
-// The n pairs at `target` become the square roots of the vectors at weights1 and weights2, which lie behind. One pass estimates, and a
-// second settles: each alone is faster than both in one.
-pub fn root_pairs_in(work: &mut [f64], n: usize, weights1: usize, weights2: usize, target: usize)
-    requires { ⌜ (target + 2 * n ≤ weights1) × (weights1 + n ≤ length (now work)) ⌝ }
-    requires { ⌜ (target + 2 * n ≤ weights2) × (weights2 + n ≤ length (now work)) ⌝ }
-    ensures { λ _. let w = now (work .entry) in
-        ⌜ now (work .exit) ≡ put target (rootPairs n (part weights1 n w) (part weights2 n w)) w ⌝ }
-{
-    for i in 0..n {
-        work[target + 2 * i] = estimate(work[weights1 + i]);
-        work[target + (2 * i + 1)] = estimate(work[weights2 + i]);
-    }
-    for i in 0..n {
-        let root1 = root_near(work[weights1 + i], work[target + 2 * i]);
-        let root2 = root_near(work[weights2 + i], work[target + (2 * i + 1)]);
-        work[target + 2 * i] = root1;
-        work[target + (2 * i + 1)] = root2;
-    }
-}
 
 // The n pairs at `target` become the vector v at `source`, which lies before them, times the first and times the second roots, the pairs
 // at `roots`, which lie behind.
@@ -44,15 +24,18 @@ pub fn scale_in(work: &mut [f64], n: usize, roots: usize, source: usize, target:
 {
     for i in 0..n {
         let x = work[source + i];
-        let r1 = work[roots + 2 * i];
-        let r2 = work[roots + (2 * i + 1)];
-        work[target + 2 * i] = r1 * x;
-        work[target + (2 * i + 1)] = r2 * x;
+        let r = roots + 2 * i;
+        let r1 = work[r];
+        let r2 = work[r + 1];
+        let t = target + 2 * i;
+        work[t] = r1 * x;
+        work[t + 1] = r2 * x;
     }
 }
 
-// The n pairs at `target` become b, the roots of the second sample times its product with the second of the scaled vectors, and a, those of
-// the first times its product with the first one. The scaled vectors, the pairs at `source`, the roots and the values lie behind.
+// The n pairs at `target` become a, the roots of the first sample times its product with the first of the scaled vectors, and b, those of
+// the second times its product with the second one; and the pairs at `scaled` r1 · b and r2 · a, which next meet the other sample's values.
+// The scaled vectors, the pairs at `source`, lie between these two, and the roots and the values behind.
 pub fn rooted_products_in(
     row_ptr: &[usize],
     col_idx: &[u32],
@@ -62,15 +45,17 @@ pub fn rooted_products_in(
     roots: usize,
     source: usize,
     target: usize,
+    scaled: usize,
 )
     requires { ⌜ Pattern n (now «row_ptr») (now «col_idx») ⌝ }
-    requires { ⌜ (target + 2 * n ≤ source) × (source + 2 * n ≤ roots) × (roots + 2 * n ≤ values) ⌝ }
+    requires { ⌜ (target + 2 * n ≤ source) × (source + 2 * n ≤ scaled) × (scaled + 2 * n ≤ roots) × (roots + 2 * n ≤ values) ⌝ }
     requires { ⌜ values + 2 * length (now «col_idx») ≤ length (now work) ⌝ }
     ensures { λ _. let w = now (work .entry) in
         let x = part values (2 * length (now («col_idx» .entry))) w in
         let r = part roots (2 * n) w in
         let s = part source (2 * n) w in
-        ⌜ now (work .exit) ≡ put target (rootedPairs n (now («row_ptr» .entry)) (now («col_idx» .entry)) x r s) w ⌝ }
+        let products = rootedPairs n (now («row_ptr» .entry)) (now («col_idx» .entry)) x r s in
+        ⌜ now (work .exit) ≡ put scaled (exchangedPairs n r products) (put target products w) ⌝ }
 {
     let values_end = values + 2 * col_idx.len();
     let source_end = source + 2 * n;
@@ -83,17 +68,25 @@ pub fn rooted_products_in(
             n,
             i,
         );
-        let r1 = work[roots + 2 * i];
-        let r2 = work[roots + (2 * i + 1)];
-        work[target + 2 * i] = r2 * sums.second;
-        work[target + (2 * i + 1)] = r1 * sums.first;
+        let r = roots + 2 * i;
+        let r1 = work[r];
+        let r2 = work[r + 1];
+        let a = r1 * sums.first;
+        let b = r2 * sums.second;
+        let t = target + 2 * i;
+        work[t] = a;
+        work[t + 1] = b;
+        let s = scaled + 2 * i;
+        work[s] = r1 * b;
+        work[s + 1] = r2 * a;
     }
 }
 
-// Ωv of order 4 from the n pairs of b and a at `pairs` and the scaled vectors r1 · b and r2 · a, the pairs at `source`: the vector at
-// `target`, which lies before them, becomes scale · (a + b) + comm_scale · (c - d) at each place, where c is r2 times the second sample's
-// product with r2 · a and d is r1 times the first one's with r1 · b.
-pub fn rooted_omega_in(
+// A term of order 4 from the n pairs of a and b at `pairs` and the scaled vectors r1 · b and r2 · a, the pairs at `source`. At each place Ωv
+// is o = scale · (a + b) + comm_scale · (c - d), where c is r2 times the second sample's product with r2 · a and d is r1 times the first
+// one's with r1 · b. The vector at n becomes o, to the sum at 0 coefficient · o is added, and the pairs at `scaled` become r1 · o and r2 · o.
+// They lie between the pairs that are read; the roots and the values lie behind.
+pub fn rooted_term_in(
     row_ptr: &[usize],
     col_idx: &[u32],
     work: &mut [f64],
@@ -102,13 +95,14 @@ pub fn rooted_omega_in(
     roots: usize,
     source: usize,
     pairs: usize,
-    target: usize,
+    scaled: usize,
     scale: f64,
     comm_scale: f64,
+    coefficient: f64,
 )
     requires { ⌜ Pattern n (now «row_ptr») (now «col_idx») ⌝ }
-    requires { ⌜ (target + n ≤ pairs) × (pairs + 2 * n ≤ source) × (source + 2 * n ≤ roots) × (roots + 2 * n ≤ values) ⌝ }
-    requires { ⌜ values + 2 * length (now «col_idx») ≤ length (now work) ⌝ }
+    requires { ⌜ (2 * n ≤ pairs) × (pairs + 2 * n ≤ scaled) × (scaled + 2 * n ≤ source) × (source + 2 * n ≤ roots) ⌝ }
+    requires { ⌜ (roots + 2 * n ≤ values) × (values + 2 * length (now «col_idx») ≤ length (now work)) ⌝ }
     ensures { λ _. let A = ieee binary64 in
         let w = now (work .entry) in
         let m = length (now («col_idx» .entry)) in
@@ -116,11 +110,12 @@ pub fn rooted_omega_in(
         let L2 = rowProduct64 n (now («row_ptr» .entry)) (now («col_idx» .entry)) (seconds A m (part values (2 * m) w)) in
         let r = part roots (2 * n) w in
         let s = part source (2 * n) w in
-        let b = firsts A n (part pairs (2 * n) w) in
-        let a = seconds A n (part pairs (2 * n) w) in
+        let a = firsts A n (part pairs (2 * n) w) in
+        let b = seconds A n (part pairs (2 * n) w) in
         let c = multiplied A n (seconds A n r) (L2 (seconds A n s)) in
         let d = multiplied A n (firsts A n r) (L1 (firsts A n s)) in
-        ⌜ now (work .exit) ≡ put target (omega4Sum A n scale «comm_scale» a b c d) w ⌝ }
+        let o = omega4Sum A n scale «comm_scale» a b c d in
+        ⌜ now (work .exit) ≡ put scaled (scaledPairs n r o) (put n o (put 0 (plusScaled A n (part 0 n w) coefficient o) w)) ⌝ }
 {
     let values_end = values + 2 * col_idx.len();
     let source_end = source + 2 * n;
@@ -133,10 +128,19 @@ pub fn rooted_omega_in(
             n,
             i,
         );
-        let d = work[roots + 2 * i] * sums.first;
-        let c = work[roots + (2 * i + 1)] * sums.second;
-        let b = work[pairs + 2 * i];
-        let a = work[pairs + (2 * i + 1)];
-        work[target + i] = scale * (a + b) + comm_scale * (c - d);
+        let r = roots + 2 * i;
+        let r1 = work[r];
+        let r2 = work[r + 1];
+        let d = r1 * sums.first;
+        let c = r2 * sums.second;
+        let p = pairs + 2 * i;
+        let a = work[p];
+        let b = work[p + 1];
+        let o = scale * (a + b) + comm_scale * (c - d);
+        work[i] = work[i] + coefficient * o;
+        work[n + i] = o;
+        let s = scaled + 2 * i;
+        work[s] = r1 * o;
+        work[s + 1] = r2 * o;
     }
 }

@@ -1,6 +1,6 @@
 -- The terms of a weighted step (01, parts 7 and 10), from the calls that form them in the work slice: with both samples as pairs, and with
 -- one list for both. Each call leaves the roots and the values, so that all terms have the same products. Assumes nothing.
-use mathlib.Core.Path.{_≡_, refl, sym, ap, _∙_, subst}
+use mathlib.Core.Path.{_≡_, refl, sym, ap, _∙_}
 use mathlib.Core.List.{List}
 use Prim.Native.Nat.{ℕ, _+_, _*_, _≤_}
 use native.Mathlib.Omega.{arith}
@@ -10,18 +10,21 @@ use Rattle.rounding.specs.StepLength.{minusHalf}
 use Rattle.arithmetic.specs.Arithmetic.{Arithmetic, ieee, multiplied}
 use Rattle.arithmetic.specs.Product.{plusScaled}
 use Rattle.arithmetic.proofs.Tabulate.{length-tabulate}
+use Rattle.arithmetic.proofs.Product.{length-plus-scaled}
 use Rattle.scratch.specs.Parts.{part, put}
-use Rattle.scratch.proofs.Parts.{Wrote, wrote, length-part, part-of-put-before}
+use Rattle.scratch.proofs.Parts.{Wrote, wrote, part-of-put-before}
 use Rattle.graph_rows.specs.RowProduct.{rowProduct64}
 use Rattle.graph_pairs.specs.Pairs.{firsts, seconds}
 use Rattle.magnus.specs.Operators.{Operator, weighted, omega4}
-use Rattle.magnus_graph_helpers.specs.Terms.{omega4Sum, omega4-sum, TermAdded, TermsAdded}
-use Rattle.magnus_graph_helpers.proofs.Terms.{ProductPlaced, room-left, term-added, term4-constant-added}
+use Rattle.magnus_graph_helpers.specs.Terms.{omega4Sum, omega4-sum, TermAdded}
+use Rattle.magnus_graph_helpers.proofs.Terms.{room-left, term4-constant-added, signal-copied}
 use Rattle.varcoef_magnus_graph_step.specs.WeightedOmega4.{weightedOmega4}
 use Rattle.varcoef_magnus_graph_products.proofs.WeightedProduct.{weighted-written, weighted-placed, roots-kept}
-use Rattle.varcoef_magnus_graph_pairs.specs.WeightedPairs.{scaledPairs, rootedPairs}
-use Rattle.varcoef_magnus_graph_pairs.proofs.WeightedPairs.{first-scaled, second-scaled, first-multiplied, second-multiplied}
+use Rattle.varcoef_magnus_graph_pairs.specs.WeightedPairs.{scaledPairs, rootedPairs, exchangedPairs}
+use Rattle.varcoef_magnus_graph_pairs.proofs.Formed.{formed}
+use Rattle.varcoef_magnus_graph_pairs.proofs.WeightedPairs.{first-scaled, second-scaled, first-exchanged, second-exchanged}
 use Rattle.varcoef_magnus_graph_pairs.proofs.WeightedPairs.{first-rooted, second-rooted}
+use Rattle.varcoef_magnus_graph_traj_step.specs.SignalScaled.{SignalScaled}
 
 abbrev A : Arithmetic Float
 A = ieee binary64
@@ -34,7 +37,7 @@ module _ (n : ℕ) (rowStarts cols : List ℕ) where
 
   -- the roots and the values that lie in the work slice, and the weighted products with them
   abbrev rootsIn : List Float → List Float
-  rootsIn w = part (6 * n) (2 * n) w
+  rootsIn w = part (8 * n) (2 * n) w
 
   abbrev valuesIn : List Float → List Float
   valuesIn w = part (11 * n) (2 * m) w
@@ -52,128 +55,170 @@ module _ (n : ℕ) (rowStarts cols : List ℕ) where
   abbrev pub sampledOmega : Float → Float → Float → List Float → Operator A n
   sampledOmega s sign τ w = omegaOf s sign τ (rootsIn w) (valuesIn w)
 
-  -- it stays where nothing from 6n on is written
+  -- it stays where nothing from 8n on is written
   pub sampled-omega-kept : (s sign τ : Float) {w w′ : List Float}
-      → ((j : ℕ) → 6 * n ≤ j → drop j w′ ≡ drop j w)
+      → ((j : ℕ) → 8 * n ≤ j → drop j w′ ≡ drop j w)
       → sampledOmega s sign τ w′ ≡ sampledOmega s sign τ w
   sampled-omega-kept s sign τ kept =
-      let r = kept (6 * n) (omega arith) in
+      let r = kept (8 * n) (omega arith) in
       let x = kept (11 * n) (omega arith) in
       λ i. omegaOf s sign τ (take (2 * n) (r i)) (take (2 * m) (x i))
 
-  -- the five calls of a term
-  module _ (s sign τ : Float) (w w₁ w₂ w₃ : List Float) (room : 11 * n + 2 * m ≤ length w)
-      (scaled : w₁ ≡ put (4 * n) (scaledPairs n (rootsIn w) (part n n w)) w)
-      (products : w₂ ≡ put (2 * n) (rootedPairs n rowStarts cols (valuesIn w₁) (rootsIn w₁) (part (4 * n) (2 * n) w₁)) w₁)
-      (again : w₃ ≡ put (4 * n) (multiplied A (2 * n) (rootsIn w₂) (part (2 * n) (2 * n) w₂)) w₂) where
+  -- the first walk of a term: a = P1 v and b = P2 v as pairs, and what the roots make of them
+  module _ (w w₁ : List Float) (room : 11 * n + 2 * m ≤ length w) (signal : SignalScaled n w) where
     abbrev v : List Float
     v = part n n w
 
-    wrote1 : Wrote (2 * n) (4 * n) (scaledPairs n (rootsIn w) v) w w₁
-    wrote1 = wrote (2 * n) (4 * n) (scaledPairs n (rootsIn w) v) w w₁ (length-tabulate _ (2 * n)) (omega arith) scaled
+    abbrev products : List Float
+    products = rootedPairs n rowStarts cols (valuesIn w) (rootsIn w) (part (4 * n) (2 * n) w)
 
-    wrote2 : Wrote (2 * n) (2 * n) (rootedPairs n rowStarts cols (valuesIn w₁) (rootsIn w₁) (part (4 * n) (2 * n) w₁)) w₁ w₂
-    wrote2 =
-        let kept = wrote1 .length-kept in
-        wrote (2 * n) (2 * n) (rootedPairs n rowStarts cols (valuesIn w₁) (rootsIn w₁) (part (4 * n) (2 * n) w₁)) w₁ w₂
-        (length-tabulate _ (2 * n)) (omega arith) products
-
-    wrote3 : Wrote (2 * n) (4 * n) (multiplied A (2 * n) (rootsIn w₂) (part (2 * n) (2 * n) w₂)) w₂ w₃
-    wrote3 =
-        let kept1 = wrote1 .length-kept in
-        let kept2 = wrote2 .length-kept in
-        wrote (2 * n) (4 * n) (multiplied A (2 * n) (rootsIn w₂) (part (2 * n) (2 * n) w₂)) w₂ w₃ (length-tabulate _ (2 * n)) (omega arith) again
-
-    -- the roots and the values are kept
-    roots1 : rootsIn w₁ ≡ rootsIn w
-    roots1 = wrote1 .apart (6 * n) (omega arith)
-
-    roots2 : rootsIn w₂ ≡ rootsIn w
-    roots2 = wrote2 .apart (6 * n) (omega arith) ∙ roots1
-
-    roots3 : rootsIn w₃ ≡ rootsIn w
-    roots3 = wrote3 .apart (6 * n) (omega arith) ∙ roots2
-
-    values1 : valuesIn w₁ ≡ valuesIn w
-    values1 = ap (take (2 * m)) (wrote1 .rest (11 * n) (omega arith))
-
-    values3 : valuesIn w₃ ≡ valuesIn w
-    values3 =
-        ap (take (2 * m)) (wrote3 .rest (11 * n) (omega arith) ∙ wrote2 .rest (11 * n) (omega arith)) ∙ values1
-
-    -- b = P2 v and a = P1 v lie as pairs at 2n
-    pairs2 : part (2 * n) (2 * n) w₂ ≡ rootedPairs n rowStarts cols (valuesIn w) (rootsIn w) (scaledPairs n (rootsIn w) v)
-    pairs2 = wrote2 .here ∙ (λ i. rootedPairs n rowStarts cols (values1 i) (roots1 i) (wrote1 .here i))
-
-    b : firsts A n (part (2 * n) (2 * n) w₂) ≡ second (rootsIn w) (valuesIn w) v
-    unfolding weighted
-    b =
-        ap (firsts A n) pairs2 ∙ first-rooted n rowStarts cols (valuesIn w) (rootsIn w) (scaledPairs n (rootsIn w) v)
-        ∙ ap (λ y. multiplied A n (seconds A n (rootsIn w)) (rowProduct64 n rowStarts cols (seconds A m (valuesIn w)) y))
-        (second-scaled n (rootsIn w) v)
-
-    a : seconds A n (part (2 * n) (2 * n) w₂) ≡ first (rootsIn w) (valuesIn w) v
+    -- the pairs that it writes
+    a : firsts A n products ≡ first (rootsIn w) (valuesIn w) v
     unfolding weighted
     a =
-        ap (seconds A n) pairs2 ∙ second-rooted n rowStarts cols (valuesIn w) (rootsIn w) (scaledPairs n (rootsIn w) v)
+        first-rooted n rowStarts cols (valuesIn w) (rootsIn w) (part (4 * n) (2 * n) w)
         ∙ ap (λ y. multiplied A n (firsts A n (rootsIn w)) (rowProduct64 n rowStarts cols (firsts A m (valuesIn w)) y))
-        (first-scaled n (rootsIn w) v)
+        (ap (firsts A n) signal ∙ first-scaled n (rootsIn w) v)
 
-    pairs3 : part (2 * n) (2 * n) w₃ ≡ part (2 * n) (2 * n) w₂
-    pairs3 = wrote3 .apart (2 * n) (omega arith)
-
-    b₃ : firsts A n (part (2 * n) (2 * n) w₃) ≡ second (rootsIn w) (valuesIn w) v
-    b₃ = ap (firsts A n) pairs3 ∙ b
-
-    a₃ : seconds A n (part (2 * n) (2 * n) w₃) ≡ first (rootsIn w) (valuesIn w) v
-    a₃ = ap (seconds A n) pairs3 ∙ a
-
-    -- their scaled signals lie as pairs at 4n
-    scaled-b : firsts A n (part (4 * n) (2 * n) w₃) ≡ multiplied A n (firsts A n (rootsIn w)) (second (rootsIn w) (valuesIn w) v)
-    scaled-b =
-        ap (firsts A n) (wrote3 .here) ∙ first-multiplied n (rootsIn w₂) (part (2 * n) (2 * n) w₂)
-        ∙ (λ i. multiplied A n (firsts A n (roots2 i)) (b i))
-
-    scaled-a : seconds A n (part (4 * n) (2 * n) w₃) ≡ multiplied A n (seconds A n (rootsIn w)) (first (rootsIn w) (valuesIn w) v)
-    scaled-a =
-        ap (seconds A n) (wrote3 .here) ∙ second-multiplied n (rootsIn w₂) (part (2 * n) (2 * n) w₂)
-        ∙ (λ i. multiplied A n (seconds A n (roots2 i)) (a i))
-
-    -- Ωv is formed of them
-    abbrev formed : List Float
-    formed =
-        let r = rootsIn w₃ in
-        let t = part (4 * n) (2 * n) w₃ in
-        omega4Sum A n (A ._*_ minusHalf τ) (A ._*_ (A ._*_ (A ._*_ sign s) τ) τ)
-        (seconds A n (part (2 * n) (2 * n) w₃)) (firsts A n (part (2 * n) (2 * n) w₃))
-        (multiplied A n (seconds A n r) (rowProduct64 n rowStarts cols (seconds A m (valuesIn w₃)) (seconds A n t)))
-        (multiplied A n (firsts A n r) (rowProduct64 n rowStarts cols (firsts A m (valuesIn w₃)) (firsts A n t)))
-
-    formula : formed ≡ sampledOmega s sign τ w v
+    b : seconds A n products ≡ second (rootsIn w) (valuesIn w) v
     unfolding weighted
-    formula =
-        (λ i.
-        omega4Sum A n (A ._*_ minusHalf τ) (A ._*_ (A ._*_ (A ._*_ sign s) τ) τ) (a₃ i) (b₃ i)
-        (multiplied A n (seconds A n (roots3 i)) (rowProduct64 n rowStarts cols (seconds A m (values3 i)) (scaled-a i)))
-        (multiplied A n (firsts A n (roots3 i)) (rowProduct64 n rowStarts cols (firsts A m (values3 i)) (scaled-b i))))
-        ∙ omega4-sum A n minusHalf s sign τ (first (rootsIn w) (valuesIn w)) (second (rootsIn w) (valuesIn w)) v
+    b =
+        second-rooted n rowStarts cols (valuesIn w) (rootsIn w) (part (4 * n) (2 * n) w)
+        ∙ ap (λ y. multiplied A n (seconds A n (rootsIn w)) (rowProduct64 n rowStarts cols (seconds A m (valuesIn w)) y))
+        (ap (seconds A n) signal ∙ second-scaled n (rootsIn w) v)
 
-    length-formed : length formed ≡ n
-    unfolding omega4Sum
-    length-formed = length-tabulate _ n
+    module _ (walked : w₁ ≡ put (6 * n) (exchangedPairs n (rootsIn w) products) (put (2 * n) products w)) where
+      abbrev between : List Float
+      between = put (2 * n) products w
 
-    pub sampled-term-added : (coefficient : Float) (w₄ w′ : List Float)
-        → w₄ ≡ put n formed w₃
-        → w′ ≡ put 0 (plusScaled A n (part 0 n w₄) coefficient (part n n w₄)) w₄
-        → TermAdded A n (6 * n) (sampledOmega s sign τ w) coefficient w w′
-    sampled-term-added coefficient w₄ w′ image sum =
-        term-added A n (6 * n) (sampledOmega s sign τ w) coefficient formed w w₃ w₄ w′ (omega arith) (omega arith) formula length-formed
-        (ap (part 0 n) again ∙ part-of-put-before (4 * n) _ w₂ 0 n (omega arith)
-        ∙ ap (part 0 n) products ∙ part-of-put-before (2 * n) _ w₁ 0 n (omega arith)
-        ∙ ap (part 0 n) scaled ∙ part-of-put-before (4 * n) _ w 0 n (omega arith))
-        (wrote3 .length-kept ∙ wrote2 .length-kept ∙ wrote1 .length-kept)
-        (λ k h. wrote3 .rest k (omega arith) ∙ wrote2 .rest k (omega arith) ∙ wrote1 .rest k (omega arith))
-        image sum
+      wrote-products : Wrote (2 * n) (2 * n) products w between
+      wrote-products = wrote (2 * n) (2 * n) products w between (length-tabulate _ (2 * n)) (omega arith) refl
+
+      wrote-scaled : Wrote (2 * n) (6 * n) (exchangedPairs n (rootsIn w) products) between w₁
+      wrote-scaled =
+          let kept = wrote-products .length-kept in
+          wrote (2 * n) (6 * n) (exchangedPairs n (rootsIn w) products) between w₁ (length-tabulate _ (2 * n)) (omega arith) walked
+
+      -- the roots, the values and the sum are kept
+      rest : (j : ℕ) → 8 * n ≤ j → drop j w₁ ≡ drop j w
+      rest j h = wrote-scaled .rest j (omega arith) ∙ wrote-products .rest j (omega arith)
+
+      kept : length w₁ ≡ length w
+      kept = wrote-scaled .length-kept ∙ wrote-products .length-kept
+
+      roots : rootsIn w₁ ≡ rootsIn w
+      roots = ap (take (2 * n)) (rest (8 * n) (omega arith))
+
+      values : valuesIn w₁ ≡ valuesIn w
+      values = ap (take (2 * m)) (rest (11 * n) (omega arith))
+
+      sum : part 0 n w₁ ≡ part 0 n w
+      sum = ap (part 0 n) walked ∙ part-of-put-before (6 * n) _ between 0 n (omega arith) ∙ part-of-put-before (2 * n) products w 0 n (omega arith)
+
+      pairs : part (2 * n) (2 * n) w₁ ≡ products
+      pairs = wrote-scaled .apart (2 * n) (omega arith) ∙ wrote-products .here
+
+      scaled-b : firsts A n (part (6 * n) (2 * n) w₁) ≡ multiplied A n (firsts A n (rootsIn w)) (second (rootsIn w) (valuesIn w) v)
+      scaled-b =
+          ap (firsts A n) (wrote-scaled .here) ∙ first-exchanged n (rootsIn w) products ∙ ap (multiplied A n (firsts A n (rootsIn w))) b
+
+      scaled-a : seconds A n (part (6 * n) (2 * n) w₁) ≡ multiplied A n (seconds A n (rootsIn w)) (first (rootsIn w) (valuesIn w) v)
+      scaled-a =
+          ap (seconds A n) (wrote-scaled .here) ∙ second-exchanged n (rootsIn w) products ∙ ap (multiplied A n (seconds A n (rootsIn w))) a
+
+      -- the second walk: Ωv is formed of them, over v, its multiple added to the sum, and what the roots make of it
+      module _ (s sign τ coefficient : Float) where
+        abbrev image : List Float
+        image =
+            formed n rowStarts cols (valuesIn w₁) (rootsIn w₁) (part (2 * n) (2 * n) w₁) (part (6 * n) (2 * n) w₁)
+            (A ._*_ minusHalf τ) (A ._*_ (A ._*_ (A ._*_ sign s) τ) τ)
+
+        formula : image ≡ sampledOmega s sign τ w v
+        unfolding weighted
+        formula =
+            (λ i.
+            omega4Sum A n (A ._*_ minusHalf τ) (A ._*_ (A ._*_ (A ._*_ sign s) τ) τ)
+            ((ap (firsts A n) pairs ∙ a) i) ((ap (seconds A n) pairs ∙ b) i)
+            (multiplied A n (seconds A n (roots i)) (rowProduct64 n rowStarts cols (seconds A m (values i)) (scaled-a i)))
+            (multiplied A n (firsts A n (roots i)) (rowProduct64 n rowStarts cols (firsts A m (values i)) (scaled-b i))))
+            ∙ omega4-sum A n minusHalf s sign τ (first (rootsIn w) (valuesIn w)) (second (rootsIn w) (valuesIn w)) v
+
+        length-image : length image ≡ n
+        unfolding omega4Sum
+        length-image = length-tabulate _ n
+
+        abbrev total : List Float
+        total = plusScaled A n (part 0 n w₁) coefficient image
+
+        module _ (w′ : List Float) (ended : w′ ≡ put (4 * n) (scaledPairs n (rootsIn w₁) image) (put n image (put 0 total w₁))) where
+          abbrev summed : List Float
+          summed = put 0 total w₁
+
+          abbrev imaged : List Float
+          imaged = put n image summed
+
+          wrote-sum : Wrote n 0 total w₁ summed
+          wrote-sum = wrote n 0 total w₁ summed (length-plus-scaled A n _ coefficient _) (omega (arith, kept)) refl
+
+          wrote-image : Wrote n n image summed imaged
+          wrote-image = wrote n n image summed imaged length-image (omega (arith, kept, wrote-sum .length-kept)) refl
+
+          wrote-next : Wrote (2 * n) (4 * n) (scaledPairs n (rootsIn w₁) image) imaged w′
+          wrote-next =
+              wrote (2 * n) (4 * n) (scaledPairs n (rootsIn w₁) image) imaged w′ (length-tabulate _ (2 * n))
+              (omega (arith, kept, wrote-sum .length-kept, wrote-image .length-kept)) ended
+
+          image-is : part n n w′ ≡ image
+          image-is = ap (part n n) ended ∙ part-of-put-before (4 * n) _ imaged n n (omega arith) ∙ wrote-image .here
+
+          pub sampled-term-added : TermAdded A n (8 * n) (sampledOmega s sign τ w) coefficient w w′
+          sampled-term-added = record {
+            image = image-is ∙ formula;
+            sum = ap (part 0 n) ended ∙ part-of-put-before (4 * n) _ imaged 0 n (omega arith) ∙ wrote-image .apart 0 (omega arith)
+                ∙ wrote-sum .here ∙ (λ i. plusScaled A n (sum i) coefficient (formula i));
+            length-kept = wrote-next .length-kept ∙ wrote-image .length-kept ∙ wrote-sum .length-kept ∙ kept;
+            rest = λ k h. wrote-next .rest k (omega arith) ∙ wrote-image .rest k (omega arith) ∙ wrote-sum .rest k (omega arith) ∙ rest k h;
+          }
+
+          pub image-scaled : SignalScaled n w′
+          image-scaled =
+              let kept-roots : rootsIn w′ ≡ rootsIn w₁ = ap (take (2 * n))
+              (wrote-next .rest (8 * n) (omega arith) ∙ wrote-image .rest (8 * n) (omega arith) ∙ wrote-sum .rest (8 * n) (omega arith)) in
+              wrote-next .here ∙ (λ i. scaledPairs n (sym kept-roots i) (sym image-is i))
+
+  -- ---- before the first term
+
+  -- the held signal was copied to n, in w₁, and scaled by the roots, in w₂
+  module _ (w w₁ w₂ : List Float) (room : 11 * n + 2 * m ≤ length w) (copied : w₁ ≡ put n (part 0 n w) w)
+      (scaled : w₂ ≡ put (4 * n) (scaledPairs n (rootsIn w₁) (part n n w₁)) w₁) where
+    wrote-copy : Wrote n n (part 0 n w) w w₁
+    wrote-copy = signal-copied A n w w₁ (omega arith) copied
+
+    wrote-pairs : Wrote (2 * n) (4 * n) (scaledPairs n (rootsIn w₁) (part n n w₁)) w₁ w₂
+    wrote-pairs =
+        wrote (2 * n) (4 * n) (scaledPairs n (rootsIn w₁) (part n n w₁)) w₁ w₂ (length-tabulate _ (2 * n))
+        (omega (arith, wrote-copy .length-kept)) scaled
+
+    copy-kept : part n n w₂ ≡ part n n w₁
+    copy-kept = ap (part n n) scaled ∙ part-of-put-before (4 * n) _ w₁ n n (omega arith)
+
+    held-kept : part 0 n w₂ ≡ part 0 n w₁
+    held-kept = ap (part 0 n) scaled ∙ part-of-put-before (4 * n) _ w₁ 0 n (omega arith)
+
+    pub begun-kept : length w₂ ≡ length w
+    begun-kept = wrote-pairs .length-kept ∙ wrote-copy .length-kept
+
+    pub begun-held : part 0 n w₂ ≡ part 0 n w
+    begun-held = held-kept ∙ wrote-copy .apart 0 (omega arith)
+
+    pub begun-signal : part n n w₂ ≡ part 0 n w₂
+    begun-signal = copy-kept ∙ wrote-copy .here ∙ sym begun-held
+
+    pub begun-scaled : SignalScaled n w₂
+    begun-scaled = wrote-pairs .here ∙ (λ i. scaledPairs n (sym (wrote-pairs .apart (8 * n) (omega arith)) i) (sym copy-kept i))
+
+    pub begun-rest : (j : ℕ) → 8 * n ≤ j → drop j w₂ ≡ drop j w
+    begun-rest j h = wrote-pairs .rest j (omega arith) ∙ wrote-copy .rest j (omega arith)
 
 -- ---- one list for both samples
 
@@ -210,28 +255,3 @@ module _ (n : ℕ) (L : Operator A n) where
       (weighted-written A n L (6 * n) (2 * n) n w₂ w₃ w₄ (omega arith) (omega (arith, room2)) scaled2 product2) in
       term4-constant-added A n (6 * n) minusHalf s sign τ coefficient (weighted A n r L) w w₂ w₄ w₅ w′ (omega arith) (omega arith)
       first second formed sum
-
--- ---- the same terms said otherwise
-
-module _ (n : ℕ) where
-  pub term-same : {coefficient : Float} {w w′ : List Float} {W W′ : Operator A n}
-      → W ≡ W′
-      → TermAdded A n (6 * n) W coefficient w w′
-      → TermAdded A n (6 * n) W′ coefficient w w′
-  term-same {coefficient} {w} {w′} e = subst (λ W. TermAdded A n (6 * n) W coefficient w w′) e
-
-  pub terms-same : {c : ℕ → Float} {d : ℕ} {w w′ : List Float} {W W′ : Operator A n}
-      → W ≡ W′
-      → TermsAdded A n (6 * n) c d W w w′
-      → TermsAdded A n (6 * n) c d W′ w w′
-  terms-same {c} {d} {w} {w′} e = subst (λ W. TermsAdded A n (6 * n) c d W w w′) e
-
--- copying the held signal to n writes nothing from 6n on
-pub copied-rest : (n : ℕ) (w w′ : List Float)
-    → 2 * n ≤ length w
-    → w′ ≡ put n (part 0 n w) w
-    → (j : ℕ)
-    → 6 * n ≤ j
-    → drop j w′ ≡ drop j w
-copied-rest n w w′ room e j h =
-    wrote n n (part 0 n w) w w′ (length-part 0 n w (omega arith)) (omega arith) e .rest j (omega arith)

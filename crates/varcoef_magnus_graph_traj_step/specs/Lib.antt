@@ -1,1 +1,2 @@
 pub mod StepTaken
+pub mod SignalScaled

@@ -2,11 +2,11 @@
 // products with the two samples, P the one where both are one list. The vectors lie one after the other in the work slice:
 //   0    the sum so far, at first the held signal and at last its successor
 //   n    v, the held signal and then its images under Ω; while Ωv is formed of one list, d = P a
-//   2n   under law 2 pairs of b = P2 v and a = P1 v; of one list a = P v
-//   4n   under law 2 pairs of the signals that the products take, scaled by the roots
+//   2n   under law 2 pairs of a = P1 v and b = P2 v; of one list a = P v
+//   4n   under law 2 the weights of the two samples as pairs, and then pairs of v, scaled by the roots
 //   5n   of one list the signal that a product takes, scaled by the roots
-//   6n   the roots of the weights, under law 2 as pairs
-//   8n   the weights of the first sample under law 2, and then those of the second
+//   6n   under law 2 pairs of b and a, scaled by the roots; of one list the roots of the weights
+//   8n   under law 2 the roots of the weights as pairs
 //   11n  under law 2 pairs of the two samples' values, as many as columns
 ghost use mathlib.Core.Path.{_≡_};
 ghost use Prim.Native.Nat.{_+_, _*_, _≤_};
@@ -19,59 +19,82 @@ ghost use Rattle.graph_checks.specs.Pattern.{Pattern, ValuedPattern};
 ghost use Rattle.graph_rows.specs.RowProduct.{rowProduct64};
 ghost use Rattle.graph_pairs.specs.Pairs.{firsts, seconds};
 ghost use Rattle.magnus.specs.Coefficients.{reciprocalFactorial};
-ghost use Rattle.varcoef_magnus_graph_faults.specs.WeightedStepChecks.{sampleWeightsFault};
+ghost use Rattle.varcoef_magnus_graph_faults.specs.WeightedStepChecks.{sampleWeightsFault, weightFault};
 ghost use Rattle.magnus_graph_helpers.specs.Terms.{TermAdded, TermsAdded};
 ghost use Rattle.varcoef_magnus_graph_step.specs.WeightedOmega4.{weightedOmega4};
 ghost use Rattle.graph_traj_segment.specs.Laws.{lawValues};
+ghost use Rattle.graph_traj_samples.specs.Sampled.{lawPairs};
+ghost use Rattle.varcoef_magnus_graph_traj_step.specs.SignalScaled.{SignalScaled};
 ghost use Rattle.varcoef_magnus_graph_traj_step.specs.StepTaken.{StepTaken};
 use error::Checked;
+use error::Refusal;
 use graph_traj_samples::kernel::sample;
+use graph_traj_samples::kernel::sample_pairs;
 use graph_traj_segment::kernel::law_value;
+use magnus_graph_checks::is_positive;
 use magnus_graph_helpers::kernel::omega_sum;
 use magnus_graph_helpers::kernel::reciprocal_factorial;
 use scratch::kernel::copy_within;
 use scratch_products::kernel::multiply;
 use scratch_sums::kernel::add_scaled;
+use square_roots::kernel::roots_in;
 use varcoef_magnus_graph::SQRT3_OVER_12_F64;
-use varcoef_magnus_graph_checks::check_sample_weights;
-use varcoef_magnus_graph_pairs::kernel::root_pairs_in;
-use varcoef_magnus_graph_pairs::kernel::rooted_omega_in;
+use varcoef_magnus_graph_checks::all_positive;
 use varcoef_magnus_graph_pairs::kernel::rooted_products_in;
+use varcoef_magnus_graph_pairs::kernel::rooted_term_in;
 use varcoef_magnus_graph_pairs::kernel::scale_in;
 use varcoef_magnus_graph_products::kernel::rooted_product_in;
 
 // ---- two samples of law 2
 
-// The vector at `at` becomes the weights of law 2, a fraction of the way from one list to the other.
-fn sample_in(starts: &[f64], ends: &[f64], fraction: f64, work: &mut [f64], at: usize)
-    requires { ⌜ (length (now ends) ≡ length (now starts)) × (at + length (now starts) ≤ length (now work)) ⌝ }
-    ensures { λ _. let values = lawValues (length (now (starts .entry))) fraction (now (starts .entry)) (now (ends .entry)) in
-        ⌜ now (work .exit) ≡ put at values (now (work .entry)) ⌝ }
+// Row 11 of the weights of one sample: a walk to the first that is not finite and above 0.
+fn check_law_weights(starts: &[f64], ends: &[f64], fraction: f64) -> Checked
+    requires { ⌜ length (now ends) ≡ length (now starts) ⌝ }
+    ensures { λ r. let weights = lawValues (length (now (starts .entry))) fraction (now (starts .entry)) (now (ends .entry)) in
+        ⌜ r ≡ sampleWeightsFault weights ⌝ }
 {
     for i in 0..starts.len() {
-        work[at + i] = law_value(fraction, starts[i], ends[i]);
+        let weight = law_value(fraction, starts[i], ends[i]);
+        if !is_positive(weight) {
+            return Checked::Refused(Refusal::Weight(weight));
+        }
     }
+    Checked::Accepted
 }
 
-// The weights of a sample, to `at`, and row 11 of them.
+// The weights of both samples, to the pairs at `at`, and row 11 of the first sample's and then of the second's. Accepted weights cost one
+// walk over the pairs that only finds out whether there is a fault.
 fn sample_weights(
     starts: &[f64],
     ends: &[f64],
-    fraction: f64,
+    fraction1: f64,
+    fraction2: f64,
     work: &mut [f64],
     at: usize,
 ) -> Checked
-    requires { ⌜ (length (now ends) ≡ length (now starts)) × (at + length (now starts) ≤ length (now work)) ⌝ }
-    ensures { λ r. let weights = lawValues (length (now (starts .entry))) fraction (now (starts .entry)) (now (ends .entry)) in
-        ⌜ (r ≡ sampleWeightsFault weights) × (now (work .exit) ≡ put at weights (now (work .entry))) ⌝ }
+    requires { ⌜ (length (now ends) ≡ length (now starts)) × (length (now starts) ≤ 65535) ⌝ }
+    requires { ⌜ at + 2 * length (now starts) ≤ length (now work) ⌝ }
+    ensures { λ r. let n = length (now (starts .entry)) in
+        let s = now (starts .entry) in
+        let e = now (ends .entry) in
+        ⌜ (r ≡ weightFault (lawValues n fraction1 s e) (lawValues n fraction2 s e))
+        × (now (work .exit) ≡ put at (lawPairs n fraction1 fraction2 s e) (now (work .entry))) ⌝ }
 {
-    sample_in(starts, ends, fraction, work, at);
-    let end = at + starts.len();
-    check_sample_weights(&work[at..end])
+    let n = starts.len();
+    sample_pairs(starts, ends, 0, n, fraction1, fraction2, work, at);
+    let end = at + 2 * n;
+    if all_positive(&work[at..end]) {
+        return Checked::Accepted;
+    }
+    let first = check_law_weights(starts, ends, fraction1);
+    let Checked::Accepted = first else {
+        return first;
+    };
+    check_law_weights(starts, ends, fraction2)
 }
 
-// One term of the Taylor sum: v becomes Ωv, by two walks over the pattern that serve both samples, and coefficient · Ωv is added to the
-// sum. The roots and the values are kept.
+// One term of the Taylor sum, by two walks over the pattern that serve both samples: v becomes Ωv, and coefficient · Ωv is added to the
+// sum. The pairs at 4n are v, scaled by the roots, before and after. The roots and the values are kept.
 fn sampled_term(
     row_ptr: &[usize],
     col_idx: &[u32],
@@ -83,26 +106,25 @@ fn sampled_term(
     n: usize,
 )
     requires { ⌜ Pattern n (now «row_ptr») (now «col_idx») ⌝ }
-    requires { ⌜ 11 * n + 2 * length (now «col_idx») ≤ length (now work) ⌝ }
+    requires { ⌜ (11 * n + 2 * length (now «col_idx») ≤ length (now work)) × SignalScaled n (now work) ⌝ }
     ensures { λ _. let A = ieee binary64 in
         let w = now (work .entry) in
         let m = length (now («col_idx» .entry)) in
         let L1 = rowProduct64 n (now («row_ptr» .entry)) (now («col_idx» .entry)) (firsts A m (part (11 * n) (2 * m) w)) in
         let L2 = rowProduct64 n (now («row_ptr» .entry)) (now («col_idx» .entry)) (seconds A m (part (11 * n) (2 * m) w)) in
-        let r1 = firsts A n (part (6 * n) (2 * n) w) in
-        let r2 = seconds A n (part (6 * n) (2 * n) w) in
-        ⌜ TermAdded A n (6 * n) (weightedOmega4 A n minusHalf s sign tau L1 L2 r1 r2) coefficient w (now (work .exit)) ⌝ }
+        let r1 = firsts A n (part (8 * n) (2 * n) w) in
+        let r2 = seconds A n (part (8 * n) (2 * n) w) in
+        ⌜ TermAdded A n (8 * n) (weightedOmega4 A n minusHalf s sign tau L1 L2 r1 r2) coefficient w (now (work .exit))
+        × SignalScaled n (now (work .exit)) ⌝ }
 {
     let pairs = 2 * n;
     let scaled = 4 * n;
-    let roots = 6 * n;
+    let next = 6 * n;
+    let roots = 8 * n;
     let values = 11 * n;
     let scale = -0.5 * tau;
     let comm_scale = sign * s * tau * tau;
-    scale_in(work, n, roots, n, scaled);
-    rooted_products_in(row_ptr, col_idx, work, n, values, roots, scaled, pairs);
-    multiply(work, 2 * n, roots, pairs, scaled);
-    rooted_omega_in(
+    rooted_products_in(
         row_ptr,
         col_idx,
         work,
@@ -111,11 +133,22 @@ fn sampled_term(
         roots,
         scaled,
         pairs,
+        next,
+    );
+    rooted_term_in(
+        row_ptr,
+        col_idx,
+        work,
         n,
+        values,
+        roots,
+        next,
+        pairs,
+        scaled,
         scale,
         comm_scale,
+        coefficient,
     );
-    add_scaled(work, n, coefficient, n, 0);
 }
 
 // The Taylor sum of four terms: the vector at 0, the held signal, becomes its successor. The roots and the values are kept.
@@ -135,12 +168,13 @@ fn sampled_taylor4(
         let m = length (now («col_idx» .entry)) in
         let L1 = rowProduct64 n (now («row_ptr» .entry)) (now («col_idx» .entry)) (firsts A m (part (11 * n) (2 * m) w)) in
         let L2 = rowProduct64 n (now («row_ptr» .entry)) (now («col_idx» .entry)) (seconds A m (part (11 * n) (2 * m) w)) in
-        let r1 = firsts A n (part (6 * n) (2 * n) w) in
-        let r2 = seconds A n (part (6 * n) (2 * n) w) in
-        ⌜ TermsAdded A n (6 * n) (reciprocalFactorial binary64) 4 (weightedOmega4 A n minusHalf s sign tau L1 L2 r1 r2)
+        let r1 = firsts A n (part (8 * n) (2 * n) w) in
+        let r2 = seconds A n (part (8 * n) (2 * n) w) in
+        ⌜ TermsAdded A n (8 * n) (reciprocalFactorial binary64) 4 (weightedOmega4 A n minusHalf s sign tau L1 L2 r1 r2)
         w (now (work .exit)) ⌝ }
 {
     copy_within(work, n, 0, n);
+    scale_in(work, n, 8 * n, n, 4 * n);
     for k in 0..4 {
         let coefficient = reciprocal_factorial(k + 1);
         sampled_term(row_ptr, col_idx, tau, sign, s, coefficient, work, n);
@@ -180,15 +214,11 @@ pub fn sampled_step(
     let Checked::Accepted = sampled else {
         return sampled;
     };
-    let first = sample_weights(a_starts, a_ends, fraction1, work, 8 * n);
-    let Checked::Accepted = first else {
-        return first;
+    let weighted = sample_weights(a_starts, a_ends, fraction1, fraction2, work, 4 * n);
+    let Checked::Accepted = weighted else {
+        return weighted;
     };
-    let second = sample_weights(a_starts, a_ends, fraction2, work, 9 * n);
-    let Checked::Accepted = second else {
-        return second;
-    };
-    root_pairs_in(work, n, 8 * n, 9 * n, 6 * n);
+    roots_in(work, 2 * n, 4 * n, 8 * n);
     sampled_taylor4(row_ptr, col_idx, tau, -1.0, SQRT3_OVER_12_F64, work, n);
     Checked::Accepted
 }

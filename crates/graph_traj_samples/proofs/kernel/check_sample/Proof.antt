@@ -4,12 +4,15 @@ use mathlib.Core.Bool.{not}
 use Prim.Native.Nat.{_-_, _*_, _<_}
 use native.Mathlib.Omega.{arith}
 use lib.ListN.{length}
+use lib.Ieee.Scale.{finite}
 use borrow.Author.Needs.{needs}
 use Rattle.scratch.specs.Parts.{part}
+use Rattle.error.specs.declared.Refusal.the-variants.{SampledValue}
 use Rattle.graph_checks.specs.PatternChecks.{notFiniteAt}
 use Rattle.graph_checks.proofs.First.{Passed, passed-none}
 use Rattle.graph_traj_segment.specs.Laws.{lawValues}
-use Rattle.graph_traj_samples.proofs.Sampled.{refused-at, finite-at, none-left, value-at, length-values}
+use Rattle.graph_traj_samples.specs.Sampled.{sampledFault}
+use Rattle.graph_traj_samples.proofs.Sampled.{refused-at, passed-at, none-left, value-at, length-values}
 use Rattle.graph_traj_samples.proofs.kernel.check_sample.Statement.{statement}
 use Rattle.graph_traj_samples.proofs.kernel.check_sample.Tie as tie
 
@@ -53,6 +56,7 @@ is-finite-requires : tie.Need-is-finite-requires Inv-loop μ-loop
 is-finite-requires c κs = search needs
 
 returns : tie.Need-returns Inv-loop μ-loop
+unfolding sampledFault
 returns c =
     let start = c .before .before .before .before .before .before .before .before .before in
     let args = start .args in
@@ -64,7 +68,7 @@ returns c =
     let turn : i < args .m = c .before .before .before .before .before .loop-test .taken in
     let value = value-at (args .k) (args .m) (args .fraction) (args .starts .now) (args .ends .now) i turn
     (c .before .before .law-value .ensures) in
-    refused-at values (c .before .before .before .before .before .before .loop .inv) _ (omega (arith, size, turn)) value
+    refused-at (λ x. not (finite x)) SampledValue values (c .before .before .before .before .before .before .loop .inv) _ (omega (arith, size, turn)) value
     (ap not (sym (c .before .is-finite .ensures)) ∙ c .if1 .taken)
 
 add-i : tie.Need-add-i Inv-loop μ-loop
@@ -85,17 +89,18 @@ loop-again c =
     let turn : i < args .m = c .before .before .before .before .before .loop-test .taken in
     let value = value-at (args .k) (args .m) (args .fraction) (args .starts .now) (args .ends .now) i turn
     (c .before .before .law-value .ensures) in
-    finite-at values (c .before .before .before .before .before .before .loop .inv) _ (omega (arith, size, turn)) value
+    passed-at (λ x. not (finite x)) SampledValue values (c .before .before .before .before .before .before .loop .inv) _ (omega (arith, size, turn)) value
     (ap not (sym (c .before .is-finite .ensures)) ∙ c .if1 .left)
 
 returns-2 : tie.Need-returns-2 Inv-loop μ-loop
+unfolding sampledFault
 returns-2 c =
     let args = c .before .before .before .before .args in
     let s = part (args .k * args .m) (args .m) (args .starts .now) in
     let e = part (args .k * args .m) (args .m) (args .ends .now) in
     let values = lawValues (args .m) (args .fraction) s e in
     let size = length-values (args .m) (args .fraction) s e in
-    none-left values (c .before .loop .inv) (omega (arith, size, c .loop-test .left))
+    none-left (λ x. not (finite x)) SampledValue values (c .before .loop .inv) (omega (arith, size, c .loop-test .left))
 
 pub check-sample-spec : {M : Type 1} → statement M
 check-sample-spec =

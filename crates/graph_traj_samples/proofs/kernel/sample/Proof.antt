@@ -1,7 +1,12 @@
 -- `sample` meets its contract: where every number of the pairs is finite, row 20 refuses neither sample; where not, the two walks find
 -- the first fault. Assumes nothing.
+use mathlib.Core.Path.{ap}
+use mathlib.Core.Bool.{not}
+use lib.Ieee.Scale.{finite}
+use Rattle.error.specs.declared.Refusal.the-variants.{SampledValue}
 use Rattle.error.proofs.Checks.{refused-here, accepted-then}
-use Rattle.graph_traj_samples.proofs.Sampled.{both-finite}
+use Rattle.graph_traj_samples.specs.Sampled.{sampledFault}
+use Rattle.graph_traj_samples.proofs.Sampled.{both-pass}
 use borrow.Author.Needs.{needs}
 use Rattle.graph_traj_samples.proofs.kernel.sample.Statement.{statement}
 use Rattle.graph_traj_samples.proofs.kernel.sample.Tie as tie
@@ -34,12 +39,13 @@ same-length : tie.Need-same-length
 same-length c = search needs
 
 returns : tie.Need-returns
+unfolding sampledFault
 returns c =
     let start = c .before .before .before .before .before .before .before .before .before .before .before in
     let args = start .args in
     let written = c .before .before .before .before .before .before .sample-pairs .ensures in (
-      both-finite (args .at) (args .m) (args .fraction1) (args .fraction2) _ _ (args .work .now) _ (start .pre .1) written
-          (c .before .all-finite .ensures) (c .if1 .taken),
+      both-pass (λ x. not (finite x)) SampledValue finite (λ x. ap not) (args .m) (args .fraction1) (args .fraction2) _ _ (args .at)
+          (args .work .now) _ (start .pre .1) written (c .before .all-finite .ensures) (c .if1 .taken),
       written,
     )
 

@@ -1,18 +1,17 @@
 -- `omega_in` meets its contract: a turn writes the next place of Ωv, from the pair of b and a at that place and the
 -- sums of its row; the pairs, which lie behind the target, are as they were. Assumes nothing.
-use mathlib.Core.Path.{sym, ap, _∙_}
+use mathlib.Core.Path.{refl, sym, _∙_}
 use mathlib.Core.Logic.{inr}
 use Prim.Native.Nat.{_+_, _-_, _*_}
 use native.Mathlib.Omega.{arith}
-use lib.ListN.{length, getD}
 use lib.Ieee.{binary64, nan}
 use Rattle.arithmetic.specs.Arithmetic.{ieee}
 use Rattle.arithmetic.proofs.Product.{at-tabulate}
 use Rattle.scratch.specs.Parts.{part}
-use Rattle.scratch.proofs.Parts.{getD-part}
-use Rattle.scratch.proofs.Writing.{Written, written-none, written-next, written-all}
+use Rattle.scratch.proofs.Parts.{getD-kept}
+use Rattle.scratch.proofs.Writing.{Written, written-none, written-next, written-all, outside-kept}
 use Rattle.graph_rows.specs.RowProduct.{rowSum64, rowProduct64}
-use Rattle.graph_scratch.proofs.WorkSlice.{lent-part, length-lent-part, outside-kept}
+use Rattle.graph_scratch.proofs.WorkSlice.{lent-part, length-lent-part}
 use Rattle.magnus_graph_helpers.proofs.Terms.{omega4SumAt, omega4-sum-walk}
 use Rattle.graph_pairs.specs.Pairs.{firsts, seconds}
 use Rattle.graph_pairs.proofs.Pairs.{at-firsts, at-seconds, omega-place}
@@ -117,12 +116,8 @@ loop-again c =
     let turn = c .before .before .before .before .before .before .loop-test .taken in
     let source = outside-kept written (args .source) (2 * n) (inr (start .pre .1 .1 .0)) in
     let sums = simp (lent-part, source) at (c .before .before .before .row-sums-of-two .ensures) in
-    let b =
-    sym (getD-part (args .source) (2 * n) (head .loop .work) (2 * i) nan (omega arith)) ∙ ap (λ x. getD x (2 * i) nan) source
-    ∙ sym (at-firsts A n products i turn) in
-    let a =
-    sym (getD-part (args .source) (2 * n) (head .loop .work) (2 * i + 1) nan (omega arith)) ∙ ap (λ x. getD x (2 * i + 1) nan) source
-    ∙ sym (at-seconds A n products i turn) in
+    let b = getD-kept (args .source) (2 * n) _ _ source (2 * i) (omega arith) _ refl nan ∙ sym (at-firsts A n products i turn) in
+    let a = getD-kept (args .source) (2 * n) _ _ source (2 * i + 1) (omega arith) _ refl nan ∙ sym (at-seconds A n products i turn) in
     let d = sums .0 ∙ sym (at-tabulate A (row (args .vals1 .now) (firsts A n products)) n i turn) in
     let c = sums .1 ∙ sym (at-tabulate A (row (args .vals2 .now) (seconds A n products)) n i turn) in
     written-next written turn _ _ (omega arith)

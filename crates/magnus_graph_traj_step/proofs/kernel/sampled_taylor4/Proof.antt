@@ -5,8 +5,8 @@ use native.Mathlib.Omega.{arith}
 use lib.Ieee.{binary64}
 use Rattle.arithmetic.specs.Arithmetic.{ieee}
 use Rattle.magnus.specs.Coefficients.{reciprocalFactorial}
-use Rattle.magnus_graph_helpers.proofs.Terms.{TermsTurn, turns-none, turns-next, turns-all}
-use Rattle.magnus_graph_traj_step.proofs.RunStep.{sampledOmega, sampled-omega-kept, term-same, terms-same, copied-rest}
+use Rattle.magnus_graph_helpers.proofs.Terms.{TermsTurn, turns-none, turns-next, turns-all, term-same, terms-same, copied-rest}
+use Rattle.magnus_graph_traj_step.proofs.RunStep.{sampledOmega, sampled-omega-kept}
 use Rattle.magnus_graph_traj_step.proofs.kernel.sampled_taylor4.Statement.{statement}
 use Rattle.magnus_graph_traj_step.proofs.kernel.sampled_taylor4.Tie as tie
 
@@ -57,7 +57,7 @@ loop-again c =
     let same = sampled-omega-kept n (args .row-ptr .now) (args .col-idx .now) (args .sign) (args .tau) (head .loop .inv .terms .rest) in
     turns-next (ieee binary64) _ _ _ (head .loop .inv) (test .loop-test .taken) _ _
     (coefficient .reciprocal-factorial .ensures)
-    (term-same n same (term .sampled-term .ensures))
+    (term-same (ieee binary64) n same (term .sampled-term .ensures))
 
 same-length : tie.Need-same-length Inv-loop μ-loop
 same-length c = omega (arith, c .before .loop .inv .terms .length-kept)
@@ -73,8 +73,8 @@ returns c =
     let copy = copied .copy-within .ensures in
     let same =
     sampled-omega-kept n (args .row-ptr .now) (args .col-idx .now) (args .sign) (args .tau)
-    (copied-rest n w _ (omega (arith, start .pre .1)) copy) in
-    terms-same n same
+    (copied-rest (ieee binary64) n (7 * n) w _ (omega (arith, start .pre .1)) (omega arith) copy) in
+    terms-same (ieee binary64) n same
     (turns-all (ieee binary64) _ _ _ w _ (omega (arith, start .pre .1)) (omega arith) copy (head .loop .inv) (c .loop-test .left))
 
 pub sampled-taylor4-spec : {M : Type 1} → statement M

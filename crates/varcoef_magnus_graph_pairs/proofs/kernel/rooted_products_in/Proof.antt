@@ -1,35 +1,39 @@
--- `rooted_products_in` meets its contract: a turn writes the next pair, from the sums of its row and the roots of its place; these, the
--- scaled signals and the values lie behind the target and are as they were. Assumes nothing.
-use mathlib.Core.Path.{refl}
-use mathlib.Core.Logic.{inr}
-use Prim.Native.Nat.{_+_, _-_, _*_}
+-- `rooted_products_in` meets its contract: a turn writes the next pair of each of two vectors, from the sums of its row and the roots of its
+-- place; these, the scaled signals and the values lie outside of both and are as they were. Assumes nothing.
+use mathlib.Core.Path.{refl, sym, ap, _∙_}
+use mathlib.Core.Logic.{inl, inr}
+use Prim.Native.Nat.{ℕ, _+_, _-_, _*_}
 use native.Mathlib.Omega.{arith}
 use lib.ListN.{length, length-set}
-use lib.Ieee.{binary64, mul, nan}
+use lib.Ieee.{Float, binary64, mul, nan}
 use Rattle.arithmetic.specs.Arithmetic.{ieee, at}
-use Rattle.scratch.specs.Parts.{part}
-use Rattle.scratch.proofs.Writing.{Written, written-none, written-all}
+use Rattle.scratch.specs.Parts.{part, put}
+use Rattle.scratch.proofs.Parts.{getD-kept}
+use Rattle.scratch.proofs.Writing.{Written, written-none, written-all, outside-kept, WrittenOver, over-none, kept-below}
 use Rattle.graph_rows.specs.RowProduct.{rowSum64}
-use Rattle.graph_scratch.proofs.WorkSlice.{lent-part, length-lent-part, outside-kept}
+use Rattle.graph_scratch.proofs.WorkSlice.{lent-part, length-lent-part}
 use Rattle.graph_pairs.specs.Pairs.{alternate, firsts, seconds}
-use Rattle.graph_pairs.proofs.Pairs.{pair-written}
-use Rattle.varcoef_magnus_graph_pairs.proofs.Behind.{read-behind}
+use Rattle.graph_pairs.proofs.Pairs.{pair-written, first-of-pair, second-of-pair}
+use Rattle.varcoef_magnus_graph_pairs.specs.WeightedPairs.{rootedPairs}
+use Rattle.varcoef_magnus_graph_pairs.proofs.Walks.{pair-over, pair-outside}
 use Rattle.varcoef_magnus_graph_pairs.proofs.kernel.rooted_products_in.Statement.{statement}
 use Rattle.varcoef_magnus_graph_pairs.proofs.kernel.rooted_products_in.Tie as tie
 
 abbrev Inv-loop : tie.InvT-loop
-Inv-loop row-ptr col-idx work₀ n values roots source target values-end source-end i₀ work i =
+Inv-loop row-ptr col-idx work₀ n values roots source target scaled values-end source-end i₀ work i =
     let A = ieee binary64 in
     let m = length col-idx in
     let x = part values (2 * m) work₀ in
     let r = part roots (2 * n) work₀ in
     let s = part source (2 * n) work₀ in
-    Written target
-    (alternate (λ j. mul binary64 (at A r (2 * j + 1)) (rowSum64 row-ptr col-idx (seconds A m x) (seconds A n s) j))
-    (λ j. mul binary64 (at A r (2 * j)) (rowSum64 row-ptr col-idx (firsts A m x) (firsts A n s) j))) (2 * n) work₀ (2 * i) work
+    let products = rootedPairs n row-ptr col-idx x r s in
+    WrittenOver scaled (alternate (λ j. mul binary64 (at A r (2 * j)) (at A products (2 * j + 1))) (λ j. mul binary64 (at A r (2 * j + 1)) (at A products (2 * j)))) (2 * n)
+    (Written target
+    (alternate (λ j. mul binary64 (at A r (2 * j)) (rowSum64 row-ptr col-idx (firsts A m x) (firsts A n s) j))
+    (λ j. mul binary64 (at A r (2 * j + 1)) (rowSum64 row-ptr col-idx (seconds A m x) (seconds A n s) j))) (2 * n) work₀ (2 * i)) (2 * i) work
 
 abbrev μ-loop : tie.MeasureT-loop
-μ-loop row-ptr col-idx work₀ n values roots source target values-end source-end i₀ work i =
+μ-loop row-ptr col-idx work₀ n values roots source target scaled values-end source-end i₀ work i =
     n - i
 
 mul-values-end : tie.Need-mul-values-end Inv-loop μ-loop
@@ -45,7 +49,7 @@ add-source-end : tie.Need-add-source-end Inv-loop μ-loop
 add-source-end c = omega arith
 
 loop-holds : tie.Need-loop-holds Inv-loop μ-loop
-loop-holds c = written-none _ _ _ _
+loop-holds c = over-none _ _ _ _ (written-none _ _ _ _)
 
 mul-row-sums-of-two : tie.Need-mul-row-sums-of-two Inv-loop μ-loop
 mul-row-sums-of-two c = omega arith
@@ -80,35 +84,38 @@ row-sums-of-two-requires c κs =
     let values = length-lent-part (start .args .values) (2 * length (start .args .col-idx .now)) work (omega arith) in
     (start .pre .0, ((values, pairs), c .before .before .before .loop-test .taken))
 
+mul-r : tie.Need-mul-r Inv-loop μ-loop
+mul-r c = omega arith
+
+add-r : tie.Need-add-r Inv-loop μ-loop
+add-r c = omega arith
+
 mul-r1 : tie.Need-mul-r1 Inv-loop μ-loop
 mul-r1 c = omega arith
-
-add-r1 : tie.Need-add-r1 Inv-loop μ-loop
-add-r1 c = omega arith
-
-mul-r1-2 : tie.Need-mul-r1-2 Inv-loop μ-loop
-mul-r1-2 c = omega arith
 
 slice-read-r1 : tie.Need-slice-read-r1 Inv-loop μ-loop
 slice-read-r1 c = omega arith
 
-mul-r2 : tie.Need-mul-r2 Inv-loop μ-loop
-mul-r2 c = omega arith
-
 add-r2 : tie.Need-add-r2 Inv-loop μ-loop
 add-r2 c = omega arith
 
-add-r2-2 : tie.Need-add-r2-2 Inv-loop μ-loop
-add-r2-2 c = omega arith
-
-mul-r2-2 : tie.Need-mul-r2-2 Inv-loop μ-loop
-mul-r2-2 c = omega arith
+mul-r2 : tie.Need-mul-r2 Inv-loop μ-loop
+mul-r2 c = omega arith
 
 slice-read-r2 : tie.Need-slice-read-r2 Inv-loop μ-loop
 slice-read-r2 c = omega arith
 
+mul-t : tie.Need-mul-t Inv-loop μ-loop
+mul-t c = omega arith
+
+add-t : tie.Need-add-t Inv-loop μ-loop
+add-t c = omega arith
+
 mul-work : tie.Need-mul-work Inv-loop μ-loop
 mul-work c = omega arith
+
+slice-write-work : tie.Need-slice-write-work Inv-loop μ-loop
+slice-write-work c = omega arith
 
 add-work : tie.Need-add-work Inv-loop μ-loop
 add-work c = omega arith
@@ -116,23 +123,29 @@ add-work c = omega arith
 mul-work-2 : tie.Need-mul-work-2 Inv-loop μ-loop
 mul-work-2 c = omega arith
 
-slice-write-work : tie.Need-slice-write-work Inv-loop μ-loop
-slice-write-work c = omega arith
+slice-write-work-2 : tie.Need-slice-write-work-2 Inv-loop μ-loop
+slice-write-work-2 c = simp length-set (omega arith)
+
+mul-s : tie.Need-mul-s Inv-loop μ-loop
+mul-s c = omega arith
+
+add-s : tie.Need-add-s Inv-loop μ-loop
+add-s c = omega arith
 
 mul-work-3 : tie.Need-mul-work-3 Inv-loop μ-loop
 mul-work-3 c = omega arith
 
+slice-write-work-3 : tie.Need-slice-write-work-3 Inv-loop μ-loop
+slice-write-work-3 c = simp length-set (omega arith)
+
 add-work-2 : tie.Need-add-work-2 Inv-loop μ-loop
 add-work-2 c = omega arith
-
-add-work-3 : tie.Need-add-work-3 Inv-loop μ-loop
-add-work-3 c = omega arith
 
 mul-work-4 : tie.Need-mul-work-4 Inv-loop μ-loop
 mul-work-4 c = omega arith
 
-slice-write-work-2 : tie.Need-slice-write-work-2 Inv-loop μ-loop
-slice-write-work-2 c = simp length-set (omega arith)
+slice-write-work-4 : tie.Need-slice-write-work-4 Inv-loop μ-loop
+slice-write-work-4 c = simp length-set (omega arith)
 
 add-i : tie.Need-add-i Inv-loop μ-loop
 add-i c = omega arith
@@ -153,22 +166,35 @@ loop-again c =
     let r = part (args .roots) (2 * n) w in
     let s = part (args .source) (2 * n) w in
     let row = rowSum64 (args .row-ptr .now) (args .col-idx .now) in
-    let written = c .before .before .before .before .before .before .before .before .before .loop .inv in
+    let products = rootedPairs n (args .row-ptr .now) (args .col-idx .now) x r s in
+    let a : ℕ → Float = λ j. mul binary64 (at A r (2 * j)) (row (firsts A m x) (firsts A n s) j) in
+    let b : ℕ → Float = λ j. mul binary64 (at A r (2 * j + 1)) (row (seconds A m x) (seconds A n s) j) in
+    let over = c .before .before .before .before .before .before .before .before .before .loop .inv in
     let turn = c .before .before .before .before .before .before .before .before .loop-test .taken in
-    let source = outside-kept written (args .source) (2 * n) (inr (start .pre .1 .0 .0)) in
-    let values = outside-kept written (args .values) (2 * m) (inr (omega arith)) in
+    let source = kept-below over (args .source) (2 * n) w (inl (omega arith))
+    (λ u told. outside-kept told (args .source) (2 * n) (inr (omega arith))) in
+    let values = kept-below over (args .values) (2 * m) w (inr (omega arith))
+    (λ u told. outside-kept told (args .values) (2 * m) (inr (omega arith))) in
+    let roots = kept-below over (args .roots) (2 * n) w (inr (omega arith))
+    (λ u told. outside-kept told (args .roots) (2 * n) (inr (omega arith))) in
     let sums = simp (lent-part, source, values) at (c .before .before .before .before .row-sums-of-two .ensures) in
-    let r1 = read-behind written (args .roots) (2 * n) (omega arith) (2 * i) (omega arith) nan in
-    let r2 = read-behind written (args .roots) (2 * n) (omega arith) (2 * i + 1) (omega arith) nan in
-    pair-written (λ j. mul binary64 (at A r (2 * j + 1)) (row (seconds A m x) (seconds A n s) j))
-    (λ j. mul binary64 (at A r (2 * j)) (row (firsts A m x) (firsts A n s) j)) written turn
-    _ _ _ _ (omega arith) (omega arith) (λ k. mul binary64 (r2 k) (sums .1 k)) (λ k. mul binary64 (r1 k) (sums .0 k))
+    let r1 = getD-kept (args .roots) (2 * n) _ _ roots (2 * i) (omega arith) _ refl nan in
+    let r2 = getD-kept (args .roots) (2 * n) _ _ roots (2 * i + 1) (omega arith) (args .roots + 2 * i + 1) (omega arith) nan in
+    let first = (λ k. mul binary64 (r1 k) (sums .0 k)) ∙ sym (first-of-pair A n a b i turn) in
+    let second = (λ k. mul binary64 (r2 k) (sums .1 k)) ∙ sym (second-of-pair A n a b i turn) in
+    pair-over (λ j. mul binary64 (at A r (2 * j)) (at A products (2 * j + 1))) (λ j. mul binary64 (at A r (2 * j + 1)) (at A products (2 * j)))
+    (pair-outside over _ _ _ _ (inl (omega arith)) (inl (omega arith))
+    (λ u told. pair-written a b told turn _ _ _ _ (omega arith) (omega arith) (λ k. mul binary64 (r1 k) (sums .0 k))
+    (λ k. mul binary64 (r2 k) (sums .1 k))))
+    turn _ _ _ _ (omega arith) (omega arith) (λ k. mul binary64 (r1 k) (second k)) (λ k. mul binary64 (r2 k) (first k))
 
 same-length : tie.Need-same-length Inv-loop μ-loop
-same-length c = c .before .loop .inv .length-kept
+same-length c = c .before .loop .inv .here .length-kept ∙ c .before .loop .inv .rest .length-kept
 
 returns : tie.Need-returns Inv-loop μ-loop
-returns c = written-all (c .before .loop .inv) (omega arith) refl
+returns c =
+    let over = c .before .loop .inv in
+    written-all (over .here) (omega arith) refl ∙ ap (put _ _) (written-all (over .rest) (omega arith) refl)
 
 pub rooted-products-in-spec : {M : Type 1} → statement M
 rooted-products-in-spec =
@@ -190,24 +216,27 @@ rooted-products-in-spec =
     part-row-sums-of-two-start-2
     part-row-sums-of-two-end-2
     row-sums-of-two-requires
+    mul-r
+    add-r
     mul-r1
-    add-r1
-    mul-r1-2
     slice-read-r1
-    mul-r2
     add-r2
-    add-r2-2
-    mul-r2-2
+    mul-r2
     slice-read-r2
+    mul-t
+    add-t
     mul-work
+    slice-write-work
     add-work
     mul-work-2
-    slice-write-work
-    mul-work-3
-    add-work-2
-    add-work-3
-    mul-work-4
     slice-write-work-2
+    mul-s
+    add-s
+    mul-work-3
+    slice-write-work-3
+    add-work-2
+    mul-work-4
+    slice-write-work-4
     add-i
     loop-less
     loop-again

@@ -1,16 +1,17 @@
 -- `scale_in` meets its contract: a turn writes the next pair, from the signal's element and the roots of its place, which lie before and
 -- behind the target. Assumes nothing.
-use mathlib.Core.Path.{refl, ap}
+use mathlib.Core.Path.{refl}
+use mathlib.Core.Logic.{inl, inr}
 use Prim.Native.Nat.{_+_, _-_, _*_}
 use native.Mathlib.Omega.{arith}
 use lib.ListN.{length-set}
 use lib.Ieee.{binary64, mul, nan}
 use Rattle.arithmetic.specs.Arithmetic.{ieee, at}
 use Rattle.scratch.specs.Parts.{part}
-use Rattle.scratch.proofs.Writing.{Written, written-none, written-all}
+use Rattle.scratch.proofs.Parts.{getD-kept}
+use Rattle.scratch.proofs.Writing.{Written, written-none, written-all, outside-kept}
 use Rattle.graph_pairs.specs.Pairs.{alternate}
 use Rattle.graph_pairs.proofs.Pairs.{pair-written}
-use Rattle.varcoef_magnus_graph_pairs.proofs.Behind.{read-before, read-behind}
 use Rattle.varcoef_magnus_graph_pairs.proofs.kernel.scale_in.Statement.{statement}
 use Rattle.varcoef_magnus_graph_pairs.proofs.kernel.scale_in.Tie as tie
 
@@ -38,56 +39,44 @@ mul-x c = omega arith
 slice-read-x : tie.Need-slice-read-x Inv-loop μ-loop
 slice-read-x c = omega arith
 
+mul-r : tie.Need-mul-r Inv-loop μ-loop
+mul-r c = omega arith
+
+add-r : tie.Need-add-r Inv-loop μ-loop
+add-r c = omega arith
+
 mul-r1 : tie.Need-mul-r1 Inv-loop μ-loop
 mul-r1 c = omega arith
-
-add-r1 : tie.Need-add-r1 Inv-loop μ-loop
-add-r1 c = omega arith
-
-mul-r1-2 : tie.Need-mul-r1-2 Inv-loop μ-loop
-mul-r1-2 c = omega arith
 
 slice-read-r1 : tie.Need-slice-read-r1 Inv-loop μ-loop
 slice-read-r1 c = omega arith
 
-mul-r2 : tie.Need-mul-r2 Inv-loop μ-loop
-mul-r2 c = omega arith
-
 add-r2 : tie.Need-add-r2 Inv-loop μ-loop
 add-r2 c = omega arith
 
-add-r2-2 : tie.Need-add-r2-2 Inv-loop μ-loop
-add-r2-2 c = omega arith
-
-mul-r2-2 : tie.Need-mul-r2-2 Inv-loop μ-loop
-mul-r2-2 c = omega arith
+mul-r2 : tie.Need-mul-r2 Inv-loop μ-loop
+mul-r2 c = omega arith
 
 slice-read-r2 : tie.Need-slice-read-r2 Inv-loop μ-loop
 slice-read-r2 c = omega arith
 
+mul-t : tie.Need-mul-t Inv-loop μ-loop
+mul-t c = omega arith
+
+add-t : tie.Need-add-t Inv-loop μ-loop
+add-t c = omega arith
+
 mul-work : tie.Need-mul-work Inv-loop μ-loop
 mul-work c = omega arith
+
+slice-write-work : tie.Need-slice-write-work Inv-loop μ-loop
+slice-write-work c = omega arith
 
 add-work : tie.Need-add-work Inv-loop μ-loop
 add-work c = omega arith
 
 mul-work-2 : tie.Need-mul-work-2 Inv-loop μ-loop
 mul-work-2 c = omega arith
-
-slice-write-work : tie.Need-slice-write-work Inv-loop μ-loop
-slice-write-work c = omega arith
-
-mul-work-3 : tie.Need-mul-work-3 Inv-loop μ-loop
-mul-work-3 c = omega arith
-
-add-work-2 : tie.Need-add-work-2 Inv-loop μ-loop
-add-work-2 c = omega arith
-
-add-work-3 : tie.Need-add-work-3 Inv-loop μ-loop
-add-work-3 c = omega arith
-
-mul-work-4 : tie.Need-mul-work-4 Inv-loop μ-loop
-mul-work-4 c = omega arith
 
 slice-write-work-2 : tie.Need-slice-write-work-2 Inv-loop μ-loop
 slice-write-work-2 c = simp length-set (omega arith)
@@ -109,9 +98,11 @@ loop-again c =
     let v = part (args .source) n (args .work .now) in
     let written = c .before .before .before .before .loop .inv in
     let turn = c .before .before .before .loop-test .taken in
-    let x = read-before written (args .source) n (start .pre .0) i turn nan in
-    let r1 = read-behind written (args .roots) (2 * n) (start .pre .1) (2 * i) (omega arith) nan in
-    let r2 = read-behind written (args .roots) (2 * n) (start .pre .1) (2 * i + 1) (omega arith) nan in
+    let source = outside-kept written (args .source) n (inl (start .pre .0)) in
+    let roots = outside-kept written (args .roots) (2 * n) (inr (start .pre .1)) in
+    let x = getD-kept (args .source) n _ _ source i turn _ refl nan in
+    let r1 = getD-kept (args .roots) (2 * n) _ _ roots (2 * i) (omega arith) _ refl nan in
+    let r2 = getD-kept (args .roots) (2 * n) _ _ roots (2 * i + 1) (omega arith) (args .roots + 2 * i + 1) (omega arith) nan in
     pair-written (λ j. mul binary64 (at A r (2 * j)) (at A v j)) (λ j. mul binary64 (at A r (2 * j + 1)) (at A v j)) written turn
     _ _ _ _ (omega arith) (omega arith) (λ k. mul binary64 (r1 k) (x k)) (λ k. mul binary64 (r2 k) (x k))
 
@@ -131,23 +122,19 @@ scale-in-spec =
     add-x
     mul-x
     slice-read-x
+    mul-r
+    add-r
     mul-r1
-    add-r1
-    mul-r1-2
     slice-read-r1
-    mul-r2
     add-r2
-    add-r2-2
-    mul-r2-2
+    mul-r2
     slice-read-r2
+    mul-t
+    add-t
     mul-work
+    slice-write-work
     add-work
     mul-work-2
-    slice-write-work
-    mul-work-3
-    add-work-2
-    add-work-3
-    mul-work-4
     slice-write-work-2
     add-i
     loop-less

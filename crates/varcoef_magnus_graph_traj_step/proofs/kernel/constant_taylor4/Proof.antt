@@ -6,8 +6,8 @@ use lib.Ieee.{binary64}
 use Rattle.arithmetic.specs.Arithmetic.{ieee}
 use Rattle.graph_rows.specs.RowProduct.{rowProduct64}
 use Rattle.magnus.specs.Coefficients.{reciprocalFactorial}
-use Rattle.magnus_graph_helpers.proofs.Terms.{TermsTurn, turns-none, turns-next, turns-all}
-use Rattle.varcoef_magnus_graph_traj_step.proofs.Terms.{constantOmega, constant-omega-kept, term-same, terms-same, copied-rest}
+use Rattle.magnus_graph_helpers.proofs.Terms.{TermsTurn, turns-none, turns-next, turns-all, term-same, terms-same, copied-rest}
+use Rattle.varcoef_magnus_graph_traj_step.proofs.Terms.{constantOmega, constant-omega-kept}
 use Rattle.varcoef_magnus_graph_traj_step.proofs.kernel.constant_taylor4.Statement.{statement}
 use Rattle.varcoef_magnus_graph_traj_step.proofs.kernel.constant_taylor4.Tie as tie
 
@@ -51,7 +51,7 @@ loop-again c =
     let head = c .before .before .before .before .before .before in
     let same = constant-omega-kept n (rowProduct64 n (args .row-ptr .now) (args .col-idx .now) (args .vals .now)) (args .s) (args .sign) (args .tau) (head .loop .inv .terms .rest) in
     turns-next (ieee binary64) _ _ _ (head .loop .inv) (c .before .before .before .before .before .loop-test .taken) _ _
-    (c .before .before .before .before .reciprocal-factorial .ensures) (term-same n same (c .before .before .constant-term .ensures))
+    (c .before .before .before .before .reciprocal-factorial .ensures) (term-same (ieee binary64) n same (c .before .before .constant-term .ensures))
 
 same-length : tie.Need-same-length Inv-loop μ-loop
 same-length c = omega (arith, c .before .loop .inv .terms .length-kept)
@@ -63,8 +63,8 @@ returns c =
     let n = args .n in
     let w = args .work .now in
     let copy = c .before .before .before .before .copy-within .ensures in
-    let same = constant-omega-kept n (rowProduct64 n (args .row-ptr .now) (args .col-idx .now) (args .vals .now)) (args .s) (args .sign) (args .tau) (copied-rest n w _ (omega (arith, start .pre .1)) copy) in
-    terms-same n same
+    let same = constant-omega-kept n (rowProduct64 n (args .row-ptr .now) (args .col-idx .now) (args .vals .now)) (args .s) (args .sign) (args .tau) (copied-rest (ieee binary64) n (6 * n) w _ (omega (arith, start .pre .1)) (omega arith) copy) in
+    terms-same (ieee binary64) n same
     (turns-all (ieee binary64) _ _ _ w _ (omega (arith, start .pre .1)) (omega arith) copy (c .before .loop .inv) (c .loop-test .left))
 
 pub constant-taylor4-spec : {M : Type 1} → statement M

@@ -1,10 +1,9 @@
--- `sampled_term` meets its contract: the signal is scaled by both roots, a walk forms both weighted products of it, these are scaled again,
--- and a second walk forms Ωv over v; then the coefficient times Ωv is added to the sum. The roots and the values lie behind all of these.
--- Assumes nothing.
+-- `sampled_term` meets its contract: the first walk forms both weighted products of v from what the roots made of it, and the second Ωv,
+-- its multiple in the sum, and what the roots make of it. The roots and the values lie behind all of these. Assumes nothing.
 use native.Mathlib.Omega.{arith}
 use lib.Ieee.{ofBits, neg}
-use Rattle.varcoef_magnus_graph_traj_step.proofs.Terms.{sampled-term-added}
 use borrow.Author.Needs.{needs}
+use Rattle.varcoef_magnus_graph_traj_step.proofs.Terms.{sampled-term-added, image-scaled}
 use Rattle.varcoef_magnus_graph_traj_step.proofs.kernel.sampled_term.Statement.{statement}
 use Rattle.varcoef_magnus_graph_traj_step.proofs.kernel.sampled_term.Tie as tie
 
@@ -14,39 +13,28 @@ mul-pairs c = search needs
 mul-scaled : tie.Need-mul-scaled
 mul-scaled c = search needs
 
+mul-next : tie.Need-mul-next
+mul-next c = search needs
+
 mul-roots : tie.Need-mul-roots
 mul-roots c = search needs
 
 mul-values : tie.Need-mul-values
 mul-values c = search needs
 
-scale-in-requires : tie.Need-scale-in-requires
-scale-in-requires c κs = search needs
-
 rooted-products-in-requires : tie.Need-rooted-products-in-requires
 rooted-products-in-requires c κs =
-    let start = c .before .before .before .before .before .before .before .before in
-    let room = start .pre .1 in
-    let kept1 = c .before .before .before .scale-in .kept .0 in
-    (start .pre .0, ((omega arith, omega arith, omega arith), omega (arith, room, kept1)))
+    let start = c .before .before .before .before in
+    let room = start .pre .1 .0 in
+    (start .pre .0, ((omega arith, omega arith, omega arith, omega arith), omega (arith, room)))
 
-mul-multiply : tie.Need-mul-multiply
-mul-multiply c = search needs
-
-multiply-requires : tie.Need-multiply-requires
-multiply-requires c κs = search needs
-
-rooted-omega-in-requires : tie.Need-rooted-omega-in-requires
-rooted-omega-in-requires c κs =
-    let start = c .before .before .before .before .before .before .before .before .before .before .before .before .before .before .before .before in
-    let room = start .pre .1 in
-    let kept1 = c .before .before .before .before .before .before .before .before .before .before .before .scale-in .kept .0 in
-    let kept2 = c .before .before .before .before .before .before .before .rooted-products-in .kept .1 .1 .0 in
-    let kept3 = c .before .before .before .multiply .kept .0 in
-    (start .pre .0, ((omega arith, omega arith, omega arith, omega arith), omega (arith, room, kept1, kept2, kept3)))
-
-add-scaled-requires : tie.Need-add-scaled-requires
-add-scaled-requires c κs = search needs
+rooted-term-in-requires : tie.Need-rooted-term-in-requires
+rooted-term-in-requires c κs =
+    let products = c .before .before .before in
+    let start = products .before .before .before .before .before in
+    let room = start .pre .1 .0 in
+    let kept = products .rooted-products-in .kept .1 .1 .0 in
+    (start .pre .0, ((omega arith, omega arith, omega arith, omega arith), (omega arith, omega (arith, room, kept))))
 
 same-length : tie.Need-same-length
 same-length c = search needs
@@ -54,12 +42,15 @@ same-length c = search needs
 returns : tie.Need-returns
 unfolding ofBits neg
 returns c =
-    let start = c .before .before .before .before .before .before .before .before .before .before .before .before .before .before .before .before .before .before .before .before .before .before .before in
-    let args = start .args in
-    sampled-term-added (args .n) (args .row-ptr .now) (args .col-idx .now) (args .s) (args .sign) (args .tau) (args .work .now) _ _ _
-    (start .pre .1) (c .before .before .before .before .before .before .before .before .before .before .before .before .before .before .before .before .before .before .scale-in .ensures) (c .before .before .before .before .before .before .before .before .before .before .before .before .before .before .rooted-products-in .ensures)
-    (c .before .before .before .before .before .before .before .before .before .before .multiply .ensures) (args .coefficient) _ _ (c .before .before .before .before .before .before .rooted-omega-in .ensures)
-    (c .before .before .add-scaled .ensures)
+    let term = c .before .before in
+    let products = term .before .before .before .before in
+    let start = products .before .before .before .before .before in
+    let args = start .args in (
+      sampled-term-added (args .n) (args .row-ptr .now) (args .col-idx .now) (args .work .now) _ (start .pre .1 .0) (start .pre .1 .1)
+          (products .rooted-products-in .ensures) (args .s) (args .sign) (args .tau) (args .coefficient) _ (term .rooted-term-in .ensures),
+      image-scaled (args .n) (args .row-ptr .now) (args .col-idx .now) (args .work .now) _ (start .pre .1 .0) (start .pre .1 .1)
+          (products .rooted-products-in .ensures) (args .s) (args .sign) (args .tau) (args .coefficient) _ (term .rooted-term-in .ensures),
+    )
 
 pub sampled-term-spec : {M : Type 1} → statement M
 sampled-term-spec =
@@ -67,13 +58,10 @@ sampled-term-spec =
     (tie.spec
     mul-pairs
     mul-scaled
+    mul-next
     mul-roots
     mul-values
-    scale-in-requires
     rooted-products-in-requires
-    mul-multiply
-    multiply-requires
-    rooted-omega-in-requires
-    add-scaled-requires
+    rooted-term-in-requires
     same-length
     returns)
