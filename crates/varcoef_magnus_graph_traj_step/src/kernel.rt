@@ -41,9 +41,9 @@ use square_roots::kernel::roots_in;
 use varcoef_magnus_graph::SQRT3_OVER_12_F64;
 use varcoef_magnus_graph_checks::all_positive;
 use varcoef_magnus_graph_pairs::kernel::rooted_products_in;
-use varcoef_magnus_graph_pairs::kernel::rooted_term_in;
 use varcoef_magnus_graph_pairs::kernel::scale_in;
 use varcoef_magnus_graph_products::kernel::rooted_product_in;
+use varcoef_magnus_graph_term::kernel::rooted_term_in;
 
 // ---- two samples of law 2
 

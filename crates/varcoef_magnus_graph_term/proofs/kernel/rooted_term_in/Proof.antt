@@ -16,10 +16,10 @@ use Rattle.scratch.proofs.Writing.{Written, written-none, written-next, written
 use Rattle.scratch.proofs.Writing.{WrittenOver, over-none, over-next, over-outside, kept-below}
 use Rattle.graph_scratch.proofs.WorkSlice.{lent-part, length-lent-part}
 use Rattle.graph_pairs.specs.Pairs.{alternate}
 use Rattle.varcoef_magnus_graph_pairs.proofs.Walks.{pair-over, behind-both, read-own, omega-elements}
 use Rattle.varcoef_magnus_graph_pairs.proofs.Formed.{formed, formed-place}
-use Rattle.varcoef_magnus_graph_pairs.proofs.kernel.rooted_term_in.Statement.{statement}
-use Rattle.varcoef_magnus_graph_pairs.proofs.kernel.rooted_term_in.Tie as tie
+use Rattle.varcoef_magnus_graph_term.proofs.kernel.rooted_term_in.Statement.{statement}
+use Rattle.varcoef_magnus_graph_term.proofs.kernel.rooted_term_in.Tie as tie
 
 abbrev Inv-loop : tie.InvT-loop
 Inv-loop row-ptr col-idx work₀ n values roots source pairs scaled scale comm-scale coefficient values-end source-end i₀ work i =
