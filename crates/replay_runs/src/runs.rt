@@ -63,19 +63,19 @@ fn cleared_by(kind: u64, expected: Answer, steps: usize, n: usize, m: usize) -> 
 }
 
 // The run of a kind: forward, weighted adjoint, or else adjoint. Only a weighted run takes the weights.
-fn evolved(
+fn evolved<'a>(
     kind: u64,
     n: usize,
     row_ptr: &[usize],
     col_idx: &[u32],
     segments: usize,
     breakpoints: &[f64],
-    starts: &[f64],
-    ends: &[f64],
+    starts: &'a [f64],
+    ends: &'a [f64],
     laws: &[u8],
     numbers: Numbers,
-    a_starts: &[f64],
-    a_ends: &[f64],
+    a_starts: &'a [f64],
+    a_ends: &'a [f64],
     src: &[f64],
     dst: &mut [f64],
     work: &mut [f64],
@@ -141,19 +141,19 @@ fn evolved(
 
 // Whether the run of a kind answers and writes what stands at a position, and leaves the work slice as it must. Each element of the work
 // slice has the bits before.
-fn outcome_right(
+fn outcome_right<'a>(
     kind: u64,
     n: usize,
     row_ptr: &[usize],
     col_idx: &[u32],
     segments: usize,
     breakpoints: &[f64],
-    starts: &[f64],
-    ends: &[f64],
+    starts: &'a [f64],
+    ends: &'a [f64],
     laws: &[u8],
     numbers: Numbers,
-    a_starts: &[f64],
-    a_ends: &[f64],
+    a_starts: &'a [f64],
+    a_ends: &'a [f64],
     src: &[f64],
     dst: &mut [f64],
     work: &mut [f64],
@@ -183,19 +183,19 @@ fn outcome_right(
 }
 
 // The same for the work slice, of which the length and then the bits of each element stand first at the position.
-fn work_slice_right(
+fn work_slice_right<'a>(
     kind: u64,
     n: usize,
     row_ptr: &[usize],
     col_idx: &[u32],
     segments: usize,
     breakpoints: &[f64],
-    starts: &[f64],
-    ends: &[f64],
+    starts: &'a [f64],
+    ends: &'a [f64],
     laws: &[u8],
     numbers: Numbers,
-    a_starts: &[f64],
-    a_ends: &[f64],
+    a_starts: &'a [f64],
+    a_ends: &'a [f64],
     src: &[f64],
     dst: &mut [f64],
     fields: &[u8],
@@ -239,15 +239,15 @@ fn read_output(kind: u64, n: usize, fields: &[u8], at: usize, target: &mut [f64]
 }
 
 // The same for the numbers, the weights, the signal and the output before, which stand first at the position.
-fn vectors_right(
+fn vectors_right<'a>(
     kind: u64,
     n: usize,
     row_ptr: &[usize],
     col_idx: &[u32],
     segments: usize,
     breakpoints: &[f64],
-    starts: &[f64],
-    ends: &[f64],
+    starts: &'a [f64],
+    ends: &'a [f64],
     laws: &[u8],
     fields: &[u8],
     at: usize,

@@ -21,22 +21,22 @@ pub fn read_weights(kind: u64, n: usize, fields: &[u8], at: usize, target: &mut 
 }
 
 // A weighted adjoint run.
-pub fn weighted_run(
+pub fn weighted_run<'a>(
     n: usize,
     row_ptr: &[usize],
     col_idx: &[u32],
     segments: usize,
     breakpoints: &[f64],
-    starts: &[f64],
-    ends: &[f64],
+    starts: &'a [f64],
+    ends: &'a [f64],
     laws: &[u8],
     tau: f64,
     steps: usize,
     rho_bar_max: f64,
     a_sup_max: f64,
     convergence_radius_check: bool,
-    a_starts: &[f64],
-    a_ends: &[f64],
+    a_starts: &'a [f64],
+    a_ends: &'a [f64],
     src: &[f64],
     dst: &mut [f64],
     work: &mut [f64],
