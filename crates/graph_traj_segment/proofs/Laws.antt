@@ -43,16 +43,24 @@ list-within k segments m l =
     let h : suc k * m ≤ segments * m = mul-le-mul-right m l in
     omega (arith, suc-mul k m)
 
--- one of two lists of m values has m values
-length-one : (b : Bool) (x y : List Float) (m : ℕ) → length x ≡ m → length y ≡ m → length (cond b x y) ≡ m
-length-one true x y m p q = p
-length-one false x y m p q = q
+-- what two lists have, the one that is chosen has
+either : (P : List Float → Type 0) (b : Bool) {x y : List Float} → P x → P y → P (cond b x y)
+either P true p q = p
+either P false p q = q
+
+-- what segment k's lists in both pools have, its law's list has
+pub law-list-has : (P : List Float → Type 0) (law k m : ℕ) (starts ends : List Float)
+    → P (part (k * m) m starts)
+    → P (part (k * m) m ends)
+    → P (lawList law k m starts ends)
+unfolding lawList
+law-list-has P law k m starts ends p q = either P (eqb law 0) p q
 
 -- a law's list has m values
 pub length-law : (law k m : ℕ) (starts ends : List Float)
     → k * m + m ≤ length starts
     → k * m + m ≤ length ends
     → length (lawList law k m starts ends) ≡ m
-unfolding lawList
 length-law law k m starts ends p q =
-    length-one (eqb law 0) _ _ m (simp (length-take, length-drop) (omega arith)) (simp (length-take, length-drop) (omega arith))
+    law-list-has (λ (l : List Float). length l ≡ m) law k m starts ends (simp (length-take, length-drop) (omega arith))
+    (simp (length-take, length-drop) (omega arith))

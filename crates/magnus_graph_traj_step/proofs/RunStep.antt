@@ -1,11 +1,10 @@
 -- One step of a run in its work slice, from the calls of its kernel, each of which tells what it wrote: under law 2 two samples, their
 -- checks and the Taylor sum; under laws 0 and 1 the Taylor sum with the one list. Assumes nothing.
 use mathlib.Core.Path.{_≡_, refl, sym, ap, _∙_, subst}
-use mathlib.Core.Bool.{Bool, true, false, not, cond}
+use mathlib.Core.Bool.{true, not}
 use mathlib.Core.List.{List}
 use Prim.Native.Nat.{ℕ, _+_, _-_, _*_, _≤_, _<_}
 use native.Mathlib.Omega.{arith}
-use lib.Dec.{eqb}
 use lib.ListN.{length, getD, take, drop}
 use lib.Ieee.{Float, binary64, nan}
 use lib.Ieee.Scale.{finite}
@@ -31,7 +30,7 @@ use Rattle.magnus_graph_faults.proofs.StepSound.{refused-not-accepted}
 use Rattle.magnus_graph_outcome.specs.Omega4.{sqrt3Over12}
 use Rattle.magnus_graph_step.specs.Omega4.{expOmega4}
 use Rattle.graph_traj_segment.specs.Laws.{lawValues, byLaw, valuesAt, lawList}
-use Rattle.graph_traj_segment.proofs.Laws.{law-values}
+use Rattle.graph_traj_segment.proofs.Laws.{law-values, law-list-has}
 use Rattle.graph_traj_samples.specs.Sampled.{sampledFault, lawPairs}
 use Rattle.graph_traj_samples.proofs.Sampled.{first-values, second-values}
 use Rattle.magnus_graph_traj_step.specs.RunStepTaken.{RunStepTaken}
@@ -174,11 +173,6 @@ module _ (n : ℕ) (rowStarts cols : List ℕ) (law : ℕ) (starts ends : List F
       ap (λ x. not (finite x)) (getD-part (k * length cols) (length cols) pool j nan l)
       ∙ ap not (all-finite (k * length cols + j) (omega arith)))
 
-  -- nor of one of two lists of which it refuses nothing
-  one-passed : (b : Bool) (x y : List Float) → Accepted ≡ sampledFault x → Accepted ≡ sampledFault y → Accepted ≡ sampledFault (cond b x y)
-  one-passed true x y p q = p
-  one-passed false x y p q = q
-
   -- both samples are the list that the law names, and the Taylor sum was formed with it
   pub constant-taken : law ≤ 1
       → k * length cols + length cols ≤ length starts
@@ -192,12 +186,12 @@ module _ (n : ℕ) (rowStarts cols : List ℕ) (law : ℕ) (starts ends : List F
       TermsAdded (ieee binary64) n (3 * n) (reciprocalFactorial binary64) 4
       (omega4 (ieee binary64) n minusHalf sqrt3Over12 sign τ L L) w w′)
       → RunStepTaken n rowStarts cols law starts ends k τ f1 f2 sign Accepted w w′
-  unfolding lawList
   constant-taken constant room-starts room-ends finite-starts finite-ends {vals} named {w} {w′} terms =
       let is : (f : Float) → valuesAt law (length cols) f (listIn starts) (listIn ends) ≡ vals =
       λ f. law-values law k (length cols) f starts ends constant ∙ sym named in
       let passed : (f : Float) → Accepted ≡ sampledFault (valuesAt law (length cols) f (listIn starts) (listIn ends)) =
-      λ f. one-passed (eqb law 0) _ _ (none-refused starts room-starts finite-starts) (none-refused ends room-ends finite-ends)
+      λ f. law-list-has (λ (l : List Float). Accepted ≡ sampledFault l) law k (length cols) starts ends
+      (none-refused starts room-starts finite-starts) (none-refused ends room-ends finite-ends)
       ∙ ap sampledFault (sym (law-values law k (length cols) f starts ends constant)) in
       record {
         answer = accepted-then Accepted Accepted _ _ (passed f1) refl (passed f2);

@@ -43,7 +43,7 @@ abbrev root : Float → Float
 root = squareRoot binary64
 
 -- the lists of the one segment are the whole pools
-whole-pool : (m : ℕ) (pool : List Float) → length pool ≡ m → part (0 * m) m pool ≡ pool
+pub whole-pool : (m : ℕ) (pool : List Float) → length pool ≡ m → part (0 * m) m pool ≡ pool
 whole-pool m pool size = ap (λ (k : ℕ). part k m pool) (zero-mul m) ∙ ap (λ (k : ℕ). part 0 k pool) (sym size) ∙ part-whole pool
 
 whole-values : (m : ℕ) (f : Float) (starts ends : List Float) → length starts ≡ m → length ends ≡ m

@@ -1,17 +1,14 @@
 -- The steps of the run, by the law of its one segment: under law 2 the samples are those of law 2, and under laws 0 and 1 both samples
 -- are the list that the law names, which row 20 does not refuse, since it is finite. Assumes nothing.
 use mathlib.Core.Path.{_≡_, sym, ap, _∙_}
-use mathlib.Core.Bool.{Bool, true, false, not, cond}
+use mathlib.Core.Bool.{true, not}
 use mathlib.Core.List.{List}
 use Prim.Native.Nat.{ℕ, _*_, _≤_, _<_}
-use native.Mathlib.Nat.{zero-mul}
 use native.Mathlib.Omega.{arith}
-use lib.Dec.{eqb}
 use lib.ListN.{length, getD}
 use lib.Ieee.{Float, nan}
 use lib.Ieee.Scale.{finite}
 use Rattle.scratch.specs.Parts.{part}
-use Rattle.scratch.proofs.Parts.{part-whole}
 use Rattle.error.specs.Checks.{next}
 use Rattle.error.specs.declared.Checked.{Checked}
 use Rattle.error.specs.declared.Checked.the-variants.{Accepted}
@@ -19,7 +16,7 @@ use Rattle.graph_shape.proofs.First.{accepts-none}
 use Rattle.magnus_graph_outcome.specs.StepOutcome.{adjoint}
 use Rattle.varcoef_magnus_graph_faults.specs.WeightedStepChecks.{weightFault}
 use Rattle.graph_traj_segment.specs.Laws.{lawValues, byLaw, valuesAt, lawList}
-use Rattle.graph_traj_segment.proofs.Laws.{law-values}
+use Rattle.graph_traj_segment.proofs.Laws.{law-values, law-list-has}
 use Rattle.graph_traj_breakpoints.specs.Breakpoints.{breakpoint}
 use Rattle.graph_traj_segment.specs.Times.{c1, c2}
 use Rattle.graph_traj_parts.specs.Trajectory.{Trajectory, AcceptedAdjointTrajectory}
@@ -27,23 +24,15 @@ use Rattle.graph_traj_samples.specs.Sampled.{sampledFault}
 use Rattle.magnus_graph_traj_steps.specs.RunSteps.{RunStep, stepIn, adjointCourse, segmentSteps, sampleAt, fractionAt, runStepFault}
 use Rattle.varcoef_magnus_graph_traj_steps.specs.WeightedRunSteps.{weightsAt, weightedRunStepFault, weightedRunStepImage}
 use Rattle.varcoef_magnus_graph_traj_step.specs.StepTaken.{stepImage}
+use Rattle.varcoef_magnus_graph_traj_step.proofs.SampledStep.{whole-pool}
 use Rattle.varcoef_magnus_graph_traj_steps.specs.SampledSteps.{sampledStepFault, sampledStepImage}
 use Rattle.magnus_graph_traj_steps.specs.StepsTaken.{StepsTaken}
 use Rattle.magnus_graph_traj_steps.proofs.StepsTaken.{same-taken}
-
--- the one segment's list is the whole pool
-whole-pool : (m : ℕ) (pool : List Float) → length pool ≡ m → part (0 * m) m pool ≡ pool
-whole-pool m pool size = ap (λ (k : ℕ). part k m pool) (zero-mul m) ∙ ap (λ (k : ℕ). part 0 k pool) (sym size) ∙ part-whole pool
 
 -- row 20 refuses nothing of a finite list
 finite-accepted : (x : List Float) → ((k : ℕ) → k < length x → finite (getD x k nan) ≡ true) → sampledFault x ≡ Accepted
 unfolding sampledFault
 finite-accepted x all-finite = sym (accepts-none _ _ _ (λ k h. ap not (all-finite k h)))
-
--- nor of one of two lists of which it refuses nothing
-one-accepted : (b : Bool) (x y : List Float) → sampledFault x ≡ Accepted → sampledFault y ≡ Accepted → sampledFault (cond b x y) ≡ Accepted
-one-accepted true x y p q = p
-one-accepted false x y p q = q
 
 module _ (t : Trajectory) (startWeights endWeights : List Float) (τ : Float) (steps : ℕ)
     (size-starts : length (t .starts) ≡ length (t .cols)) (size-ends : length (t .ends) ≡ length (t .cols))
@@ -128,7 +117,7 @@ module _ (t : Trajectory) (startWeights endWeights : List Float) (τ : Float) (s
       → StepsTaken (λ (s : RunStep). weightFault a a) (λ (s : RunStep). stepImage (t .nodes) (t .rowStarts) (t .cols) τ x x a a)
       (t .nodes) need (segmentSteps 0 steps) answer w w′
       → Taken answer w w′
-  unfolding sampleAt weightsAt lawList
+  unfolding sampleAt weightsAt
   taken-listed size-ends-weights constant finite-starts finite-ends {x} {a} values weights =
       let law = getD (t .laws) 0 0 in
       let s = whole-pool (t .nodes) startWeights size-weights in
@@ -140,7 +129,8 @@ module _ (t : Trajectory) (startWeights endWeights : List Float) (τ : Float) (s
       (λ j c. (λ i. valuesAt law (t .nodes) (fractionAt t (adjointCourse τ steps) (stepIn 0 j) c) (sym s i) (sym e i))
       ∙ law-values law 0 (t .nodes) (fractionAt t (adjointCourse τ steps) (stepIn 0 j) c) startWeights endWeights constant
       ∙ sym weights)
-      (ap sampledFault values ∙ one-accepted (eqb law 0) _ _ s-accepted e-accepted)
+      (ap sampledFault values
+      ∙ law-list-has (λ (l : List Float). sampledFault l ≡ Accepted) law 0 m (t .starts) (t .ends) s-accepted e-accepted)
 
 -- ---- what the run's trajectory has
 
