@@ -8,8 +8,8 @@ use error::check_length;
 use magnus_graph_checks::check_bound;
 use magnus_graph_checks::check_lengths;
 use magnus_graph_checks::check_room;
-use magnus_graph_checks::check_samples;
 use magnus_graph_checks::check_step_length;
+use magnus_graph_step_checks::check_samples;
 
 // Rows 6 and 1 to 5 of the three samples of order 6, each wholly before the next.
 pub fn check_samples6(

@@ -13,100 +13,14 @@ ghost use Rattle.graph_rows.specs.RowProduct.{rowProduct64};
 ghost use Rattle.magnus.specs.Omega6.{constants6, omega6};
 ghost use Rattle.magnus.specs.OperatorArithmetic.{onVectors};
 ghost use Rattle.magnus.specs.Coefficients.{reciprocalFactorial};
-ghost use Rattle.magnus_graph_helpers.specs.Terms.{TermAdded, TermsAdded};
+ghost use Rattle.magnus_graph_helpers.specs.Terms.{TermsAdded};
 ghost use Rattle.magnus6_graph_helpers.specs.Omega6Step.{expOmega6};
 use magnus_graph_helpers::kernel::reciprocal_factorial;
-use magnus6_graph_operators::kernel::form_at_v;
-use magnus6_graph_operators::kernel::form_lop;
-use magnus6_graph_operators::kernel::form_rop;
+use magnus6_graph_term::kernel::taylor_term6;
 use scratch::kernel::clear;
 use scratch::kernel::copy_within;
 use scratch::kernel::load;
 use scratch::kernel::store;
-use scratch_products::kernel::scaled_difference;
-use scratch_sums::kernel::add;
-use scratch_sums::kernel::add_scaled;
-
-// A constant of magnus6_graph_helpers.rs; its value is that of constants6 in the crate magnus.
-const ONE_OVER_240: f64 = 1.0 / 240.0;
-
-// One term of the Taylor sum (`apply_omega6` and `axpy_into_slice` of the Rust): v becomes Ωv, and coefficient · Ωv is
-// added to the sum.
-fn taylor_term6(
-    row_ptr1: &[usize],
-    col_idx1: &[u32],
-    vals1: &[f64],
-    row_ptr2: &[usize],
-    col_idx2: &[u32],
-    vals2: &[f64],
-    row_ptr3: &[usize],
-    col_idx3: &[u32],
-    vals3: &[f64],
-    tau: f64,
-    coefficient: f64,
-    work: &mut [f64],
-    n: usize,
-)
-    requires { ⌜ ValuedPattern n (now «row_ptr1») (now «col_idx1») (now vals1) ⌝ }
-    requires { ⌜ ValuedPattern n (now «row_ptr2») (now «col_idx2») (now vals2) ⌝ }
-    requires { ⌜ ValuedPattern n (now «row_ptr3») (now «col_idx3») (now vals3) ⌝ }
-    requires { ⌜ 22 * n ≤ length (now work) ⌝ }
-    ensures { λ _. let A = ieee binary64 in
-        let L1 = rowProduct64 n (now («row_ptr1» .entry)) (now («col_idx1» .entry)) (now (vals1 .entry)) in
-        let L2 = rowProduct64 n (now («row_ptr2» .entry)) (now («col_idx2» .entry)) (now (vals2 .entry)) in
-        let L3 = rowProduct64 n (now («row_ptr3» .entry)) (now («col_idx3» .entry)) (now (vals3 .entry)) in
-        ⌜ TermAdded A n (22 * n) (omega6 (onVectors A n) constants6 tau L1 L2 L3) coefficient
-        (now (work .entry)) (now (work .exit)) ⌝ }
-{
-    form_at_v(
-        row_ptr1,
-        col_idx1,
-        vals1,
-        row_ptr2,
-        col_idx2,
-        vals2,
-        row_ptr3,
-        col_idx3,
-        vals3,
-        tau,
-        work,
-        n,
-    );
-    form_lop(
-        row_ptr1,
-        col_idx1,
-        vals1,
-        row_ptr2,
-        col_idx2,
-        vals2,
-        row_ptr3,
-        col_idx3,
-        vals3,
-        tau,
-        work,
-        n,
-        4 * n,
-    );
-    form_rop(
-        row_ptr1,
-        col_idx1,
-        vals1,
-        row_ptr2,
-        col_idx2,
-        vals2,
-        row_ptr3,
-        col_idx3,
-        vals3,
-        tau,
-        work,
-        n,
-        3 * n,
-    );
-    // Ωv, over v
-    scaled_difference(work, n, ONE_OVER_240, 5 * n, 21 * n, 6 * n);
-    add(work, n, 2 * n, 6 * n, n);
-    add_scaled(work, n, coefficient, n, 0);
-}
 
 // The Taylor sum of six terms (`accumulate_taylor6` of the Rust): the vector at 0, the signal, becomes the step's answer.
 fn taylor6(

@@ -3,8 +3,8 @@
 ghost use Rattle.magnus_graph_faults.specs.StepChecks.{sample};
 ghost use Rattle.magnus_graph_outcome.specs.StepOutcome.{stepInput, Stepped, forward, adjoint};
 use error::Checked;
-use magnus_graph_checks::check_step;
 use magnus_graph_step::kernel::step4;
+use magnus_graph_step_checks::check_step;
 
 // The literal for √3/12 of the unweighted steps; its bits are those of sqrt3Over12 in specs/Omega4.antt.
 pub const SQRT3_OVER_12_F64: f64 = 0.144_337_567_297_406_433;

@@ -1,10 +1,10 @@
 // The checks of the steps of order 4 (the validations of the drivers in magnus_graph.rs and magnus_graph_adjoint.rs), one function
-// for each row of document 01's table, and their chains. Every function answers what its definition in
+// for each row of document 01's table or two. Every function answers what its definition in magnus_graph_faults'
 // specs/StepChecks.antt says, for all inputs.
 ghost use mathlib.Core.Path.{_≡_};
 ghost use mathlib.Core.Bool.{not};
 ghost use Rattle.magnus_graph_faults.specs.StepChecks.{notPositive, boundFault, tauFault, radiusFault, roomFault};
-ghost use Rattle.magnus_graph_faults.specs.StepChecks.{sample, samplesFault, stepLengthFault, lengthsFault, stepFault};
+ghost use Rattle.magnus_graph_faults.specs.StepChecks.{stepLengthFault, lengthsFault};
 use error::Checked;
 use error::Refusal;
 use error::check_length;
@@ -64,28 +64,6 @@ pub fn check_room(work: usize, need: usize) -> Checked
     }
 }
 
-// Rows 6 and 1 to 5 of both samples, one wholly before the next.
-pub fn check_samples(
-    n1: usize,
-    row_ptr1: &[usize],
-    col_idx1: &[u32],
-    vals1: &[f64],
-    n2: usize,
-    row_ptr2: &[usize],
-    col_idx2: &[u32],
-    vals2: &[f64],
-) -> Checked
-    ensures { λ r. ⌜ r ≡ samplesFault
-        (sample n1 (now («row_ptr1» .entry)) (now («col_idx1» .entry)) (now (vals1 .entry)))
-        (sample n2 (now («row_ptr2» .entry)) (now («col_idx2» .entry)) (now (vals2 .entry))) ⌝ }
-{
-    let first = graph_checks::from_csr_parts(n1, row_ptr1, col_idx1, vals1);
-    let Checked::Accepted = first else {
-        return first;
-    };
-    graph_checks::from_csr_parts(n2, row_ptr2, col_idx2, vals2)
-}
-
 // Rows 7 and 8.
 pub fn check_step_length(tau: f64, bound: f64, radius_check: bool) -> Checked
     ensures { λ r. ⌜ r ≡ stepLengthFault tau bound «radius_check» ⌝ }
@@ -110,45 +88,4 @@ pub fn check_lengths(n: usize, second: usize, signal: usize, output: usize) -> C
         return source;
     };
     check_length(output, n)
-}
-
-// All checks of an unweighted step. rho_bar_max is the spectral bound; signal, output and work are lengths.
-pub fn check_step(
-    n1: usize,
-    row_ptr1: &[usize],
-    col_idx1: &[u32],
-    vals1: &[f64],
-    n2: usize,
-    row_ptr2: &[usize],
-    col_idx2: &[u32],
-    vals2: &[f64],
-    tau: f64,
-    rho_bar_max: f64,
-    radius_check: bool,
-    signal: usize,
-    output: usize,
-    work: usize,
-) -> Checked
-    ensures { λ r. ⌜ r ≡ stepFault
-        (sample n1 (now («row_ptr1» .entry)) (now («col_idx1» .entry)) (now (vals1 .entry)))
-        (sample n2 (now («row_ptr2» .entry)) (now («col_idx2» .entry)) (now (vals2 .entry)))
-        tau «rho_bar_max» «radius_check» signal output work ⌝ }
-{
-    let samples = check_samples(n1, row_ptr1, col_idx1, vals1, n2, row_ptr2, col_idx2, vals2);
-    let Checked::Accepted = samples else {
-        return samples;
-    };
-    let bound = check_bound(rho_bar_max);
-    let Checked::Accepted = bound else {
-        return bound;
-    };
-    let step_length = check_step_length(tau, rho_bar_max, radius_check);
-    let Checked::Accepted = step_length else {
-        return step_length;
-    };
-    let lengths = check_lengths(n1, n2, signal, output);
-    let Checked::Accepted = lengths else {
-        return lengths;
-    };
-    check_room(work, 5 * n1)
 }

@@ -4,8 +4,8 @@ ghost use Rattle.magnus_graph_outcome.specs.StepOutcome.{forward, adjoint};
 ghost use Rattle.magnus_graph_faults.specs.StepChecks.{sample};
 ghost use Rattle.varcoef_magnus_graph_outcome.specs.StepOutcome.{stepInput, Stepped};
 use error::Checked;
-use varcoef_magnus_graph_checks::check_weighted_step;
 use varcoef_magnus_graph_step::kernel::step4_la;
+use varcoef_magnus_graph_step_checks::check_weighted_step;
 
 // The literal for √3/12 of the weighted steps; its bits are those of sqrt3Over12 in specs/WeightedOmega4.antt.
 pub const SQRT3_OVER_12_F64: f64 = 0.144_337_567_297_406_45;

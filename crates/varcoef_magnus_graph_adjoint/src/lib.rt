@@ -3,10 +3,10 @@ ghost use Rattle.graph_traj_parts.specs.Trajectory.{trajectory};
 ghost use Rattle.magnus_graph_traj_outcome.specs.RunOutcome.{Ran};
 ghost use Rattle.varcoef_magnus_graph_adjoint.specs.WeightedRunOutcome.{weightedAdjointRun};
 use error::Checked;
-use graph_traj_adjoint_checks::check_weighted_adjoint_run;
 use scratch::kernel::clear;
 use scratch::kernel::load;
 use scratch::kernel::store;
+use varcoef_magnus_graph_adjoint_checks::check_weighted_adjoint_run;
 use varcoef_magnus_graph_adjoint_run::kernel::run_steps;
 
 // The weighted adjoint run in the one segment of its trajectory: dst becomes src after `steps` steps of length tau, the last first. The

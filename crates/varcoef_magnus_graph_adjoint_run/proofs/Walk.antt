@@ -26,7 +26,7 @@ use Rattle.varcoef_magnus_graph_faults.specs.WeightedStepChecks.{sampleWeightsF
 use Rattle.magnus_graph_helpers.specs.Terms.{TermsAdded}
 use Rattle.magnus_graph_faults.proofs.StepSound.{refused-not-accepted}
 use Rattle.varcoef_magnus_graph_outcome.specs.WeightedOmega4.{sqrt3Over12}
-use Rattle.varcoef_magnus_graph_step.specs.WeightedOmega4.{weightedOmega4}
+use Rattle.varcoef_magnus_graph_taylor_term.specs.WeightedOmega4.{weightedOmega4}
 use Rattle.graph_traj_segment.specs.declared.kernel.Segment.{Segment}
 use Rattle.graph_traj_segment.specs.Laws.{fraction, lawValues}
 use Rattle.graph_traj_segment.specs.Times.{c1, c2, adjointStepStart, sampleTime}

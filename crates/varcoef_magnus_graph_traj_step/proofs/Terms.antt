@@ -18,7 +18,7 @@ use Rattle.graph_pairs.specs.Pairs.{firsts, seconds}
 use Rattle.magnus.specs.Operators.{Operator, weighted, omega4}
 use Rattle.magnus_graph_helpers.specs.Terms.{omega4Sum, omega4-sum, TermAdded}
 use Rattle.magnus_graph_helpers.proofs.Terms.{room-left, term4-constant-added, signal-copied}
-use Rattle.varcoef_magnus_graph_step.specs.WeightedOmega4.{weightedOmega4}
+use Rattle.varcoef_magnus_graph_taylor_term.specs.WeightedOmega4.{weightedOmega4}
 use Rattle.varcoef_magnus_graph_products.proofs.WeightedProduct.{weighted-written, weighted-placed, roots-kept}
 use Rattle.varcoef_magnus_graph_pairs.specs.WeightedPairs.{scaledPairs, rootedPairs, exchangedPairs}
 use Rattle.varcoef_magnus_graph_pairs.proofs.Formed.{formed}

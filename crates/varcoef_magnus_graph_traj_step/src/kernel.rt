@@ -21,7 +21,7 @@ ghost use Rattle.graph_pairs.specs.Pairs.{firsts, seconds};
 ghost use Rattle.magnus.specs.Coefficients.{reciprocalFactorial};
 ghost use Rattle.varcoef_magnus_graph_faults.specs.WeightedStepChecks.{sampleWeightsFault, weightFault};
 ghost use Rattle.magnus_graph_helpers.specs.Terms.{TermAdded, TermsAdded};
-ghost use Rattle.varcoef_magnus_graph_step.specs.WeightedOmega4.{weightedOmega4};
+ghost use Rattle.varcoef_magnus_graph_taylor_term.specs.WeightedOmega4.{weightedOmega4};
 ghost use Rattle.graph_traj_segment.specs.Laws.{lawValues};
 ghost use Rattle.graph_traj_samples.specs.Sampled.{lawPairs};
 ghost use Rattle.varcoef_magnus_graph_traj_step.specs.SignalScaled.{SignalScaled};

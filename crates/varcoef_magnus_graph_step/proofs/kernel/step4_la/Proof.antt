@@ -12,7 +12,7 @@ use Rattle.arithmetic.specs.Arithmetic.{ieee}
 use Rattle.arithmetic.proofs.Tabulate.{length-tabulate}
 use Rattle.square_root.specs.SquareRoot.{squareRoot}
 use Rattle.graph_rows.specs.RowProduct.{rowProduct64}
-use Rattle.varcoef_magnus_graph_step.specs.WeightedOmega4.{weightedOmega4}
+use Rattle.varcoef_magnus_graph_taylor_term.specs.WeightedOmega4.{weightedOmega4}
 use Rattle.varcoef_magnus_graph_step.proofs.Terms.{all-loaded, step-done-la}
 use borrow.Author.Needs.{needs}
 use Rattle.varcoef_magnus_graph_step.proofs.kernel.step4_la.Statement.{statement}

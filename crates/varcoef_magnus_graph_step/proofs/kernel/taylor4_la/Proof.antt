@@ -9,7 +9,7 @@ use Rattle.scratch.specs.Parts.{part}
 use Rattle.graph_rows.specs.RowProduct.{rowProduct64}
 use Rattle.magnus.specs.Coefficients.{reciprocalFactorial}
 use Rattle.magnus_graph_helpers.proofs.Terms.{TermsTurn, turns-none}
-use Rattle.varcoef_magnus_graph_step.specs.WeightedOmega4.{weightedOmega4}
+use Rattle.varcoef_magnus_graph_taylor_term.specs.WeightedOmega4.{weightedOmega4}
 use Rattle.varcoef_magnus_graph_step.proofs.Terms.{turns-next-la, turns-all-la}
 use Rattle.varcoef_magnus_graph_step.proofs.kernel.taylor4_la.Statement.{statement}
 use Rattle.varcoef_magnus_graph_step.proofs.kernel.taylor4_la.Tie as tie

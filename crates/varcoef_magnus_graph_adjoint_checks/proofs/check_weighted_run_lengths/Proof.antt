@@ -2,8 +2,8 @@
 use borrow.Author.Needs.{needs}
 use Rattle.error.proofs.Checks.{refused-here, accepted-then}
 use Rattle.graph_traj_adjoint_faults.specs.AdjointRunChecks.{weightedRunLengthsFault}
-use Rattle.graph_traj_adjoint_checks.proofs.check_weighted_run_lengths.Statement.{statement}
-use Rattle.graph_traj_adjoint_checks.proofs.check_weighted_run_lengths.Tie as tie
+use Rattle.varcoef_magnus_graph_adjoint_checks.proofs.check_weighted_run_lengths.Statement.{statement}
+use Rattle.varcoef_magnus_graph_adjoint_checks.proofs.check_weighted_run_lengths.Tie as tie
 
 check-signals-requires : tie.Need-check-signals-requires
 check-signals-requires c κs = search needs

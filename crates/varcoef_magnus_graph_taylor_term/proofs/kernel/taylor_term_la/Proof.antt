@@ -1,4 +1,4 @@
--- `varcoef_magnus_graph_step::kernel::taylor_term_la` meets its contract: the four weighted products are placed as the formula
+-- `varcoef_magnus_graph_taylor_term::kernel::taylor_term_la` meets its contract: the four weighted products are placed as the formula
 -- asks, d over v, which is no longer needed; then Ωv is formed of them over d, and the coefficient times Ωv is added to the
 -- sum. The roots lie after what is written. The factors are those of the formula; the code's -0.5 is its minusHalf. Assumes
 -- nothing.
@@ -14,8 +14,8 @@ use Rattle.magnus.specs.Operators.{weighted}
 use Rattle.magnus_graph_helpers.proofs.Terms.{room-left, term4-added}
 use Rattle.varcoef_magnus_graph_products.proofs.WeightedProduct.{weighted-placed, roots-kept}
 use borrow.Author.Needs.{needs}
-use Rattle.varcoef_magnus_graph_step.proofs.kernel.taylor_term_la.Statement.{statement}
-use Rattle.varcoef_magnus_graph_step.proofs.kernel.taylor_term_la.Tie as tie
+use Rattle.varcoef_magnus_graph_taylor_term.proofs.kernel.taylor_term_la.Statement.{statement}
+use Rattle.varcoef_magnus_graph_taylor_term.proofs.kernel.taylor_term_la.Tie as tie
 
 mul-a : tie.Need-mul-a
 mul-a c = search needs

@@ -1,4 +1,4 @@
--- `magnus6_graph_helpers::kernel::taylor_term6` meets its contract: the two operators of the last commutator are applied to each other's
+-- `magnus6_graph_term::kernel::taylor_term6` meets its contract: the two operators of the last commutator are applied to each other's
 -- image of v, Ωv is formed over v, and the coefficient times Ωv is added to the sum. The code's quotient
 -- 1 / 240 is the formula's. Assumes nothing.
 use native.Mathlib.Omega.{arith}
@@ -8,8 +8,8 @@ use Rattle.arithmetic.proofs.Tabulate.{length-tabulate}
 use Rattle.graph_rows.specs.RowProduct.{rowProduct64}
 use Rattle.magnus.specs.Omega6.{constants6}
 use Rattle.magnus6_graph_parts.proofs.Omega6Parts.{term6-added}
-use Rattle.magnus6_graph_helpers.proofs.kernel.taylor_term6.Statement.{statement}
-use Rattle.magnus6_graph_helpers.proofs.kernel.taylor_term6.Tie as tie
+use Rattle.magnus6_graph_term.proofs.kernel.taylor_term6.Statement.{statement}
+use Rattle.magnus6_graph_term.proofs.kernel.taylor_term6.Tie as tie
 
 form-at-v-requires : tie.Need-form-at-v-requires
 form-at-v-requires c κs =

@@ -1,11 +1,11 @@
--- `magnus_graph_checks::check_samples` meets its contract: it makes the checks of `samplesFault` in their order.
+-- `magnus_graph_step_checks::check_samples` meets its contract: it makes the checks of `samplesFault` in their order.
 -- Assumes nothing.
 use borrow.Author.Needs.{needs}
 use Rattle.error.proofs.Checks.{refused-here, accepted-then}
 use Rattle.error.proofs.Left.{fault-is}
 use Rattle.magnus_graph_faults.specs.StepChecks.{sampleFault, samplesFault}
-use Rattle.magnus_graph_checks.proofs.check_samples.Statement.{statement}
-use Rattle.magnus_graph_checks.proofs.check_samples.Tie as tie
+use Rattle.magnus_graph_step_checks.proofs.check_samples.Statement.{statement}
+use Rattle.magnus_graph_step_checks.proofs.check_samples.Tie as tie
 
 from-csr-parts-requires : tie.Need-from-csr-parts-requires
 from-csr-parts-requires c κs = search needs

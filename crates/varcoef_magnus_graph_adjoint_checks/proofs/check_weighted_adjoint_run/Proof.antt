@@ -7,9 +7,9 @@ use Rattle.error.proofs.Checks.{refused-here, accepted-then}
 use Rattle.graph_traj_parts.proofs.TrajectorySound.{adjoint-trajectory-accepted}
 use Rattle.varcoef_magnus_graph_faults.specs.WeightedStepChecks.{weightedBound}
 use Rattle.graph_traj_adjoint_faults.specs.AdjointRunChecks.{weightedAdjointRunFault}
 use Rattle.graph_traj_adjoint_checks.proofs.Steps.{no-steps, some-steps}
-use Rattle.graph_traj_adjoint_checks.proofs.check_weighted_adjoint_run.Statement.{statement}
-use Rattle.graph_traj_adjoint_checks.proofs.check_weighted_adjoint_run.Tie as tie
+use Rattle.varcoef_magnus_graph_adjoint_checks.proofs.check_weighted_adjoint_run.Statement.{statement}
+use Rattle.varcoef_magnus_graph_adjoint_checks.proofs.check_weighted_adjoint_run.Tie as tie
 
 check-adjoint-trajectory-requires : tie.Need-check-adjoint-trajectory-requires
 check-adjoint-trajectory-requires c κs = search needs

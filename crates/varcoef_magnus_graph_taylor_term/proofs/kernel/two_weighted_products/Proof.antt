@@ -1,4 +1,4 @@
--- `varcoef_magnus_graph_step::kernel::two_weighted_products` meets its contract: the second product is written to what the first
+-- `varcoef_magnus_graph_taylor_term::kernel::two_weighted_products` meets its contract: the second product is written to what the first
 -- left. Assumes nothing.
 use mathlib.Core.Path.{_∙_, ap}
 use Prim.Native.Nat.{_*_}
@@ -8,8 +8,8 @@ use Rattle.arithmetic.specs.Arithmetic.{ieee}
 use Rattle.graph_rows.specs.RowProduct.{rowProduct64}
 use Rattle.varcoef_magnus_graph_products.specs.WeightedProduct.{withProduct}
 use borrow.Author.Needs.{needs}
-use Rattle.varcoef_magnus_graph_step.proofs.kernel.two_weighted_products.Statement.{statement}
-use Rattle.varcoef_magnus_graph_step.proofs.kernel.two_weighted_products.Tie as tie
+use Rattle.varcoef_magnus_graph_taylor_term.proofs.kernel.two_weighted_products.Statement.{statement}
+use Rattle.varcoef_magnus_graph_taylor_term.proofs.kernel.two_weighted_products.Tie as tie
 
 mul-r1 : tie.Need-mul-r1
 mul-r1 c = search needs
