@@ -1,4 +1,4 @@
-// For programs in C and Rust: the square root, and the calls on one Laplacian and on signals. Each function makes one call and gives back its
+// For programs in C and Rust: the checks of one Laplacian, and its Gershgorin bound. Each function makes one call and gives back its
 // answer as a struct; a slice is a pointer and a length to such a program. include/fuistelo.h declares the functions.
 ghost use mathlib.Core.Path.{_≡_};
 ghost use mathlib.Core.List.{[], _∷_};
@@ -6,31 +6,16 @@ ghost use lib.Ieee.{binary64};
 ghost use Rattle.error.specs.Refusals.{real, Answers};
 ghost use Rattle.graph_bound.specs.Gershgorin.{gershgorinBound};
 ghost use Rattle.graph_checks.specs.PatternChecks.{patternFault, csrFault};
-ghost use Rattle.graph.specs.ProductOutcome.{productOutcome};
-ghost use Rattle.graph_signal.specs.Outcome.{copyOutcome, sumOutcome};
-ghost use Rattle.square_root.specs.SquareRoot.{squareRoot};
 ghost use Rattle.answer.specs.Struct.{structOf, Tells};
 use answer::Answer;
 use answer::checked;
 use answer::laid_out;
 use answer::refused;
 use graph::Bounded;
-use graph::apply_into_slice;
 use graph::check_pattern;
 use graph::from_csr_parts;
 use graph::gershgorin_bound_csr;
-use graph_signal::axpy_into_slice;
-use graph_signal::copy_from;
 use refusal_rows::Row;
-use square_root::sqrt;
-
-// The square root of x.
-#[no_mangle]
-pub extern "C" fn fuistelo_sqrt(x: f64) -> f64
-    ensures { λ r. ⌜ r ≡ squareRoot binary64 x ⌝ }
-{
-    sqrt(x)
-}
 
 // Whether the parts make up a Laplacian.
 #[no_mangle]
@@ -68,40 +53,4 @@ pub extern "C" fn fuistelo_gershgorin_bound_csr(
         Bounded::Bound(bound) => laid_out(Row::Real(0, bound)),
         Bounded::Refused(refusal) => refused(refusal),
     }
-}
-
-// The row product.
-#[no_mangle]
-pub extern "C" fn fuistelo_apply_into_slice(
-    n: usize,
-    row_ptr: &[usize],
-    col_idx: &[u32],
-    vals: &[f64],
-    src: &[f64],
-    dst: &mut [f64],
-) -> Answer
-    ensures answer { λ r. let outcome = productOutcome n (now («row_ptr» .entry)) (now («col_idx» .entry)) (now (vals .entry))
-        (now (src .entry)) (now (dst .entry)) in ⌜ Tells r (λ answer. Answers answer (outcome .answer)) ⌝ }
-    ensures output { λ r. let outcome = productOutcome n (now («row_ptr» .entry)) (now («col_idx» .entry)) (now (vals .entry))
-        (now (src .entry)) (now (dst .entry)) in ⌜ now (dst .exit) ≡ outcome .output ⌝ }
-{
-    checked(apply_into_slice(n, row_ptr, col_idx, vals, src, dst))
-}
-
-// The signal becomes src.
-#[no_mangle]
-pub extern "C" fn fuistelo_copy_from(signal: &mut [f64], src: &[f64]) -> Answer
-    ensures answer { λ r. ⌜ Tells r (λ answer. Answers answer (copyOutcome (now (signal .entry)) (now (src .entry)) .answer)) ⌝ }
-    ensures written { λ r. ⌜ now (signal .exit) ≡ copyOutcome (now (signal .entry)) (now (src .entry)) .signal ⌝ }
-{
-    checked(copy_from(signal, src))
-}
-
-// The signal becomes signal + alpha · src.
-#[no_mangle]
-pub extern "C" fn fuistelo_axpy_into_slice(signal: &mut [f64], alpha: f64, src: &[f64]) -> Answer
-    ensures answer { λ r. ⌜ Tells r (λ answer. Answers answer (sumOutcome (now (signal .entry)) alpha (now (src .entry)) .answer)) ⌝ }
-    ensures written { λ r. ⌜ now (signal .exit) ≡ sumOutcome (now (signal .entry)) alpha (now (src .entry)) .signal ⌝ }
-{
-    checked(axpy_into_slice(signal, alpha, src))
 }

@@ -105,8 +105,9 @@ pub fn products_in(
             &work[source..source_end],
             i,
         );
-        work[target + 2 * i] = sums.second;
-        work[target + (2 * i + 1)] = sums.first;
+        let t = target + 2 * i;
+        work[t] = sums.second;
+        work[t + 1] = sums.first;
     }
 }
 
@@ -146,8 +147,9 @@ pub fn omega_in(
             n,
             i,
         );
-        let b = work[source + 2 * i];
-        let a = work[source + (2 * i + 1)];
+        let s = source + 2 * i;
+        let b = work[s];
+        let a = work[s + 1];
         work[target + i] = scale * (a + b) + comm_scale * (sums.second - sums.first);
     }
 }

@@ -1,3 +1,4 @@
 pub mod First
 pub mod Sound
 pub mod Walk
+pub mod RowStarts

@@ -1,8 +1,9 @@
 -- The checks of the sizes and the row starts: rows 6, 1, 2 and 3 of document 01's table, each over all inputs, and their order. What is
 -- read past a list's end is 0; no check that comes after an accepted one reads there. Assumes nothing.
-use mathlib.Core.Bool.{Bool}
+use mathlib.Core.Path.{_≡_}
+use mathlib.Core.Bool.{Bool, false}
 use mathlib.Core.List.{List}
-use Prim.Native.Nat.{ℕ, _+_}
+use Prim.Native.Nat.{ℕ, _+_, _<_}
 use lib.Dec.{ltb}
 use lib.ListN.{length, getD}
 use Rattle.error.specs.Checks.{refuseIf, refuseUnequal, next}
@@ -21,6 +22,10 @@ rowStartCountFault n count = refuseUnequal count (n + 1) (RowStartCount count)
 -- row i's start exceeds the next
 abbrev pub fallsAt : List ℕ → ℕ → Bool
 fallsAt starts i = ltb (getD starts (i + 1) 0) (getD starts i 0)
+
+-- no row start of n rows exceeds the next
+abbrev pub Rise : ℕ → List ℕ → Type 0
+Rise n starts = (i : ℕ) → i < n → fallsAt starts i ≡ false
 
 -- row 2: the first i whose start exceeds the next
 unfoldable pub rowStartsFault : ℕ → List ℕ → Checked

@@ -1,8 +1,9 @@
 // The checks of a Laplacian's sizes and row starts (graph.rs), one function for each row of document 01's table.
 ghost use mathlib.Core.Path.{_≡_};
+ghost use mathlib.Core.Bool.{true};
 ghost use Prim.Native.Nat.{_+_, _≤_};
 ghost use lib.ListN.{length};
-ghost use Rattle.graph_shape.specs.ShapeChecks.{sizeFault, rowStartCountFault, rowStartsFault, entryCountFault, shapeFault};
+ghost use Rattle.graph_shape.specs.ShapeChecks.{sizeFault, rowStartCountFault, Rise, rowStartsFault, entryCountFault, shapeFault};
 use error::Checked;
 use error::Refusal;
 
@@ -50,11 +51,29 @@ fn check_row_start_count(n: usize, count: usize) -> Checked
     }
 }
 
-// Row 2: no row start exceeds the next.
+// Whether no row start exceeds the next, by one walk without a branch, so that several starts are tested at once. Where a start is 2^63 or
+// more it may say no without need. A start and its distance from the next, both below 2^63, make the next without wrapping around.
+fn row_starts_rise(n: usize, row_ptr: &[usize]) -> bool
+    requires { ⌜ length (now «row_ptr») ≡ n + 1 ⌝ }
+    ensures { λ r. ⌜ (r ≡ true → Rise n (now («row_ptr» .entry))) ⌝ }
+{
+    let mut joined = 0;
+    for i in 0..n {
+        let start = row_ptr[i];
+        let distance = std::num::wrapping_sub_usize(row_ptr[i + 1], start);
+        joined = joined | start | distance;
+    }
+    joined < 0x8000_0000_0000_0000
+}
+
+// Row 2: no row start exceeds the next. Accepted row starts cost one walk that only finds out whether there is a fault.
 fn check_row_starts(n: usize, row_ptr: &[usize]) -> Checked
     requires { ⌜ length (now «row_ptr») ≡ n + 1 ⌝ }
     ensures { λ r. ⌜ r ≡ rowStartsFault n (now («row_ptr» .entry)) ⌝ }
 {
+    if row_starts_rise(n, row_ptr) {
+        return Checked::Accepted;
+    }
     for i in 0..n {
         if row_ptr[i] > row_ptr[i + 1] {
             return Checked::Refused(Refusal::RowStartFalls(i));

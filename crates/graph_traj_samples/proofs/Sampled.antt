@@ -1,18 +1,20 @@
 -- The laws of two samples that lie as pairs: the values of each, and that a test of values, as row 20 for a sample's values and row 11 for
 -- its weights, refuses neither where every number of the pairs passes. Assumes nothing.
 use mathlib.Core.Path.{_≡_, refl, sym, ap, _∙_}
-use mathlib.Core.Bool.{Bool, true, false}
+use mathlib.Core.Bool.{Bool, true, false, _&&_}
 use mathlib.Core.List.{List}
-use Prim.Native.Nat.{ℕ, _+_, _-_, _*_, _≤_, _<_}
+use Prim.Native.Nat.{ℕ, _+_, _*_, _≤_, _<_}
 use native.Mathlib.Omega.{arith}
-use lib.ListN.{length, getD}
+use lib.ListN.{length, getD, take, set}
 use lib.Ieee.{Float, nan, binary64}
 use Rattle.float.specs.All.{all, all-is}
+use Rattle.float.proofs.All.{all-of-none, all-more, all-passed}
 use Rattle.arithmetic.specs.Vector.{tabulate}
 use Rattle.arithmetic.specs.Arithmetic.{ieee, at}
 use Rattle.arithmetic.proofs.Tabulate.{length-tabulate, getD-tabulate}
 use Rattle.scratch.specs.Parts.{part, put}
-use Rattle.scratch.proofs.Parts.{getD-part, part-of-put}
+use Rattle.scratch.proofs.Parts.{getD-part}
+use Rattle.scratch.proofs.Writing.{Written, written-none, written-all}
 use Rattle.error.specs.Checks.{next}
 use Rattle.error.specs.declared.Refusal.{Refusal}
 use Rattle.error.specs.declared.Checked.{Checked}
@@ -20,10 +22,10 @@ use Rattle.error.specs.declared.Checked.the-variants.{Accepted, Refused}
 use Rattle.error.proofs.Checks.{accepted-then}
 use Rattle.graph_checks.specs.First.{refuseFirst}
 use Rattle.graph_checks.proofs.First.{Passed, passed-more, passed-found, refuses-first, accepts-none}
-use Rattle.graph_scratch.proofs.WorkSlice.{lent-part}
-use Rattle.graph_pairs.specs.Pairs.{alternate, firsts, seconds}
-use Rattle.graph_pairs.proofs.Pairs.{alternate-first, alternate-second, firsts-of-pairs, seconds-of-pairs}
-use Rattle.graph_traj_segment.specs.Laws.{lawValue, lawValues}
+use Rattle.graph_pairs.specs.Pairs.{alternate, pairs, firsts, seconds}
+use Rattle.graph_pairs.proofs.Pairs.{pair-written, alternate-first, alternate-second, first-of-pair, second-of-pair}
+use Rattle.graph_pairs.proofs.Pairs.{firsts-of-pairs, seconds-of-pairs}
+use Rattle.graph_traj_laws.specs.Laws.{lawValue, lawValues}
 use Rattle.graph_traj_samples.specs.Sampled.{lawPairs}
 
 -- ---- a test of the values of one sample, and the refusal of the first that it refuses
@@ -78,35 +80,36 @@ length-values m f s e = length-tabulate _ m
 
 -- ---- both samples
 
-module _ (m : ℕ) (f1 f2 : Float) (starts ends : List Float) where
-  abbrev value : Float → ℕ → Float
-  value f i = lawValue f (at (ieee binary64) starts i) (at (ieee binary64) ends i)
+-- the value of one of them at place i
+abbrev pub value : List Float → List Float → Float → ℕ → Float
+value starts ends f i = lawValue f (at (ieee binary64) starts i) (at (ieee binary64) ends i)
 
+module _ (m : ℕ) (f1 f2 : Float) (starts ends : List Float) where
   -- the values of the first sample, and of the second
   pub first-values : firsts (ieee binary64) m (lawPairs m f1 f2 starts ends) ≡ lawValues m f1 starts ends
   unfolding lawValues
-  first-values = firsts-of-pairs (ieee binary64) m (value f1) (value f2)
+  first-values = firsts-of-pairs (ieee binary64) m (value starts ends f1) (value starts ends f2)
 
   pub second-values : seconds (ieee binary64) m (lawPairs m f1 f2 starts ends) ≡ lawValues m f2 starts ends
   unfolding lawValues
-  second-values = seconds-of-pairs (ieee binary64) m (value f1) (value f2)
+  second-values = seconds-of-pairs (ieee binary64) m (value starts ends f1) (value starts ends f2)
 
 -- every number of the pairs passes a quick test, which refuses what the test of row 20 or 11 refuses
 module _ (bad : Float → Bool) (refusal : Float → Refusal) (good : Float → Bool)
     (enough : (x : Float) → good x ≡ true → bad x ≡ false) (m : ℕ) (f1 f2 : Float) (starts ends : List Float) where
   abbrev one : ℕ → Float
-  one = value m f1 f2 starts ends f1
+  one = value starts ends f1
 
   abbrev two : ℕ → Float
-  two = value m f1 f2 starts ends f2
+  two = value starts ends f2
 
   abbrev accepted-pairs : Type 0
   accepted-pairs = Accepted ≡ next (firstFault bad refusal (lawValues m f1 starts ends)) (firstFault bad refusal (lawValues m f2 starts ends))
 
-  none-refused-of-both : all good (lawPairs m f1 f2 starts ends) ≡ true → accepted-pairs
+  pub both-pass : {b : Bool} → b ≡ all good (lawPairs m f1 f2 starts ends) → b ≡ true → accepted-pairs
   unfolding lawValues
-  none-refused-of-both h =
-      let each = all-is good (lawPairs m f1 f2 starts ends) nan .0 h in
+  both-pass tested passed =
+      let each = all-is good (lawPairs m f1 f2 starts ends) nan .0 (sym tested ∙ passed) in
       let size = length-tabulate (alternate one two) (2 * m) in
       let number = getD-tabulate (alternate one two) (2 * m) in
       let first = none-refused bad refusal one m (λ i l.
@@ -115,14 +118,34 @@ module _ (bad : Float → Bool) (refusal : Float → Refusal) (good : Float → 
       enough _ (ap good (sym (number (2 * i + 1) nan (omega arith) ∙ alternate-second one two i)) ∙ each (2 * i + 1) (omega arith))) in
       accepted-then Accepted Accepted _ _ first refl second
 
-  -- both samples were written as pairs, and what was looked through is the part of the work slice where they lie
-  pub both-pass : (target : ℕ) (w w′ : List Float) {b : Bool}
-      → target + 2 * m ≤ length w
-      → w′ ≡ put target (lawPairs m f1 f2 starts ends) w
-      → b ≡ all good (part target (target + 2 * m - target) w′)
-      → b ≡ true
-      → accepted-pairs
-  both-pass target w w′ room written quick passed =
-      let here = part-of-put target (2 * m) (lawPairs m f1 f2 starts ends) w (length-tabulate _ (2 * m)) room in
-      none-refused-of-both
-      (ap (all good) (sym (lent-part target (2 * m) w′ ∙ ap (part target (2 * m)) written ∙ here)) ∙ sym quick ∙ passed)
+-- a walk that writes both samples as pairs and tests them: one and two are the values of the first sample and of the second
+module _ (good : Float → Bool) (one two : ℕ → Float) (m target : ℕ) (w₀ : List Float) where
+  -- after i turns the work slice is w, and what was written passes or not
+  pub record Sampling (i : ℕ) (passed : Bool) (w : List Float) : Type 0 where
+    pub written : Written target (alternate one two) (2 * m) w₀ (2 * i) w
+    pub so-far : passed ≡ all good (take (2 * i) (pairs m one two))
+
+  pub sampling-none : Sampling 0 true w₀
+  sampling-none = record { written = written-none target (alternate one two) (2 * m) w₀; so-far = all-of-none good }
+
+  module _ {i : ℕ} {passed : Bool} {w : List Float} (before : Sampling i passed w) where
+    pub sampling-next : i < m → {x y : Float} {t u : Bool} → x ≡ one i → y ≡ two i → t ≡ good x → u ≡ good y
+        → Sampling (i + 1) ((passed && t) && u) (set (set w (target + 2 * i) x) (target + 2 * i + 1) y)
+    sampling-next turn {x} {y} {t} {u} is-one is-two tested-one tested-two =
+        let size : length (pairs m one two) ≡ 2 * m = length-tabulate (alternate one two) (2 * m) in
+        let first = first-of-pair (ieee binary64) m one two i turn in
+        let second = second-of-pair (ieee binary64) m one two i turn in
+        let next : 2 * i + 1 + 1 ≡ 2 * (i + 1) = omega arith in
+        record {
+          written = pair-written one two (before .written) turn _ _ x y refl (omega arith) is-one is-two;
+          so-far = all-more good (pairs m one two) nan (2 * i + 1) (passed && t) u (omega arith)
+              (all-more good (pairs m one two) nan (2 * i) passed t (omega arith) (before .so-far) (tested-one ∙ ap good (is-one ∙ sym first)))
+              (tested-two ∙ ap good (is-two ∙ sym second))
+              ∙ ap (λ (k : ℕ). all good (take k (pairs m one two))) next;
+        }
+
+    -- all turns
+    pub sampling-all : m ≤ i → (passed ≡ all good (pairs m one two)) × (w ≡ put target (pairs m one two) w₀)
+    sampling-all last =
+        let size : length (pairs m one two) ≡ 2 * m = length-tabulate (alternate one two) (2 * m) in
+        (all-passed good (pairs m one two) (2 * i) passed (omega arith) (before .so-far), written-all (before .written) (omega arith) refl)

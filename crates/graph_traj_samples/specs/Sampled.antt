@@ -9,7 +9,7 @@ use Rattle.error.specs.declared.Checked.{Checked}
 use Rattle.graph_checks.specs.First.{refuseFirst}
 use Rattle.graph_checks.specs.PatternChecks.{notFiniteAt}
 use Rattle.graph_pairs.specs.Pairs.{pairs}
-use Rattle.graph_traj_segment.specs.Laws.{lawValue}
+use Rattle.graph_traj_laws.specs.Laws.{lawValue}
 
 -- row 20: the first sampled value that is not finite
 unfoldable pub sampledFault : List Float → Checked

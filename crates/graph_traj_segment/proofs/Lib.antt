@@ -1,2 +1,1 @@
 pub mod CountsExact
-pub mod Laws

@@ -1,5 +1,5 @@
--- The times of a run (01, parts 8 and 10): the step length of a segment, where a step starts, and where its samples lie, each in the
--- order of rounded operations that 01 gives. Assumes nothing.
+-- The times of a run (01, parts 8 and 10): the step length of a segment, where a step starts, where its samples lie and how far on the
+-- segment's way, each in the order of rounded operations that 01 gives. Assumes nothing.
 use Prim.Native.Nat.{ℕ, _-_ as _-ℕ_}
 use lib.IntN.{pos}
 use lib.Ieee
@@ -39,3 +39,7 @@ adjointStepStart τ N k = real (N -ℕ 1 -ℕ k) * τ
 -- the sample at the node c of a step that starts at t lies at t + c·τ
 unfoldable pub sampleTime : Float → Float → Float → Float
 sampleTime t c τ = t + c * τ
+
+-- how far t is on its way from a to b: (t - a)/(b - a), carried past both ends
+unfoldable pub fraction : Float → Float → Float → Float
+fraction t a b = (t - a) / (b - a)

@@ -1,7 +1,7 @@
 -- The bytes of a job (01, "The job program"). Every read is defined: past the end of the bytes it gives 0. Assumes nothing.
-use mathlib.Core.Bool.{Bool, not, cond, _&&_, _||_}
+use mathlib.Core.Bool.{Bool, not, cond, _||_}
 use mathlib.Core.List.{List, [], _∷_}
-use Prim.Native.Nat.{ℕ, zero, suc, _+_, _*_, _/_, _%_, _^_, min}
+use Prim.Native.Nat.{ℕ, zero, suc, _+_, _*_, min}
 use lib.Dec.{eqb, ltb}
 use lib.ListN.{length, getD}
 use lib.Ieee.{Float, binary64, ofBits}
@@ -10,6 +10,8 @@ use Rattle.error.specs.Checks.{refuseIf}
 use Rattle.error.specs.declared.Refusal.the-variants.{Malformed}
 use Rattle.error.specs.declared.Checked.{Checked}
 use Rattle.little_endian.specs.LittleEndian.{littleEndian}
+-- the map: whether a bit of it stands, the bits that no job lacks, whether it is allowed
+unfoldable pub use Rattle.job_checks.specs.Map.{stands, required, allowed}
 
 -- ---- numbers and reals, little-endian
 
@@ -27,20 +29,6 @@ words16 bytes at k = tabulate (λ i. word16 bytes (at + 2 * i)) k
 
 unfoldable pub reals : List ℕ → ℕ → ℕ → List Float
 reals bytes at k = tabulate (λ i. real bytes (at + 8 * i)) k
-
--- ---- the map
-
--- whether a bit of the map stands
-unfoldable pub stands : ℕ → ℕ → Bool
-stands map bit = eqb (map / 2 ^ bit % 2) 1
-
--- the bits that no job lacks
-unfoldable pub required : ℕ → Bool
-required map = stands map 0 && (stands map 1 && (stands map 2 && (stands map 4 && stands map 7)))
-
--- a map that is allowed: it has no bit above 8, it lacks none that is required, and bit 3 stands neither with 6 nor with 8
-unfoldable pub allowed : ℕ → Bool
-allowed map = ltb map 512 && (required map && not (stands map 3 && (stands map 6 || stands map 8)))
 
 -- ---- the fields: the map, and then those whose bit stands, in bit order
 

@@ -2,7 +2,8 @@
 ghost use mathlib.Core.Path.{_≡_};
 ghost use Prim.Native.Nat.{_^_, _≤_, _<_};
 ghost use lib.ListN.{getD};
-ghost use Rattle.job_format.specs.JobFormat.{stands, fieldSizes, fieldStart, jobMap, jobNodes, jobEntries};
+ghost use Rattle.job_format.specs.JobFormat.{fieldSizes, fieldStart, jobMap, jobNodes, jobEntries};
+use job_checks::kernel::stands_in;
 use little_endian::kernel::word16;
 
 // With what a job starts: the map, n and m.
@@ -26,14 +27,6 @@ pub fn head_of(job: &[u8]) -> Head
         nodes,
         entries,
     }
-}
-
-// Whether a bit of a map stands.
-pub fn stands_in(map: u64, bit: u64) -> bool
-    requires { ⌜ bit < 64 ⌝ }
-    ensures { λ r. ⌜ r ≡ stands map bit ⌝ }
-{
-    (map >> bit) % 2 == 1
 }
 
 // How many bytes the field of a bit has, for n nodes and m entries.

@@ -14,7 +14,8 @@ use Rattle.error.proofs.Checks.{next-refused}
 use Rattle.job_text.specs.Text.{RefusedText}
 use Rattle.job_format.proofs.Malformed.{longer-refused}
 use Rattle.job_step.specs.JobOutcome.{jobAnswer, jobOutput}
-use Rattle.job_run.specs.JobText.{AnswerText, JobText}
+use Rattle.job_answer.specs.AnswerText.{AnswerText}
+use Rattle.job_run.specs.JobText.{JobText}
 
 longer-answer : (job : List ℕ) → 16384 < length job → jobAnswer job ≡ Refused (Malformed 16385)
 unfolding jobAnswer

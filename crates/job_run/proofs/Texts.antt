@@ -15,31 +15,11 @@ use Rattle.job_format.specs.JobFormat.{jobOf, malformedFault}
 use Rattle.job_format.proofs.Malformed.{accepted-sizes}
 use Rattle.job_step.specs.JobOutcome.{jobStepAnswer, jobStepOutput, jobAnswer, jobOutput}
 use Rattle.job_step.specs.Stepped.{Small, Taken}
-use Rattle.job_run.specs.JobText.{AnswerText, JobText}
-
--- the array begins with a text of which something else holds too
-begins-with : {P Q : List ℕ → Type 0} {before after : List ℕ} {n : ℕ}
-    → ((t : List ℕ) → P t → Q t)
-    → Begins P before after n
-    → Begins Q before after n
-begins-with f b = record { within = b .within; text = f _ (b .text); rest = b .rest }
+use Rattle.job_answer.specs.AnswerText.{AnswerText}
+use Rattle.job_answer.proofs.Written.{begins-with, refusal-written}
+use Rattle.job_run.specs.JobText.{JobText}
 
 module _ {before after : List ℕ} {n : ℕ} where
-  -- an answer is written
-  pub done-written : {answer : Checked} {values : List Float}
-      → answer ≡ Accepted
-      → Begins (DoneText values) before after n
-      → Begins (AnswerText answer values) before after n
-  unfolding AnswerText
-  done-written {answer} {values} p = begins-with (λ t d. subst⁻¹ (λ (a : Checked). AnswerText a values t) p d)
-
-  pub refusal-written : {answer : Checked} (values : List Float) {r : Refusal}
-      → answer ≡ Refused r
-      → Begins (RefusedText r) before after n
-      → Begins (AnswerText answer values) before after n
-  unfolding AnswerText
-  refusal-written {answer} values p = begins-with (λ t d. subst⁻¹ (λ (a : Checked). AnswerText a values t) p d)
-
   -- the step was taken, and its answer is written
   pub step-written : {answer fault : Checked} {values left : List Float}
       → Taken answer fault values left

@@ -1,31 +1,21 @@
 // A job, from its bytes to the text that is printed (01, "The job program").
 ghost use mathlib.Core.Path.{_≡_};
-ghost use Prim.Native.Nat.{_≤_};
-ghost use lib.ListN.{length};
 ghost use Rattle.scratch.specs.Parts.{zeros};
 ghost use Rattle.error.specs.declared.Checked.the-variants.{Accepted};
 ghost use Rattle.job_text_numbers.specs.Placed.{Begins};
 ghost use Rattle.job_format.specs.JobFormat.{jobOf, malformedFault};
 ghost use Rattle.job_step.specs.JobOutcome.{jobStepAnswer, jobStepOutput};
-ghost use Rattle.job_run.specs.JobText.{AnswerText, JobText};
+ghost use Rattle.job_answer.specs.AnswerText.{AnswerText};
+ghost use Rattle.job_run.specs.JobText.{JobText};
 use error::Checked;
+use job_answer::kernel::write_answer;
 use job_format::check_job;
 use job_format::kernel::head_of;
-use job_step::kernel::step;
 use job_text::TEXT;
-use job_text::kernel::write_done;
 use job_text::write_refused;
+use steps::step;
 
-// The text of an answer, and the count of its bytes. An accepted job has at most 64 values.
-fn write_answer(answer: Checked, values: &[f64], text: &mut [u8; TEXT]) -> usize
-    requires { ⌜ length (now values) ≤ 64 ⌝ }
-    ensures { λ r. ⌜ Begins (AnswerText answer (now (values .entry))) (now (text .entry)) (now (text .exit)) r ⌝ }
-{
-    match answer {
-        Checked::Accepted => write_done(values, text),
-        Checked::Refused(refusal) => write_refused(refusal, text),
-    }
-}
+mod steps;
 
 // Room for the output of every job.
 fn output_room() -> [f64; 64]

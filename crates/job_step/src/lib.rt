@@ -1,2 +1,1 @@
-// The step that a job asks for (01, "The job program"). specs/JobOutcome.antt says which step it is and what it is lent.
-pub mod kernel;
+// The step that a job asks for, and what the job answers (01, "The job program"): definitions and their laws.

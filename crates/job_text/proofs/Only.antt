@@ -12,12 +12,12 @@ use lib.Ieee.{Float, nan, binary64, ofBits, toBits, nanBits, isNan}
 use lib.Ieee.Bits.{toBits-ofBits, nanBits-is}
 use Rattle.rounding.proofs.Nan.{pattern-of-nan}
 use Rattle.error.specs.declared.Refusal.the-variants.{NoNodes}
-use Rattle.job_text_numbers.specs.Numbers.{decimal, digits, digit, places, placesWithin, hexadecimal16, RealText}
+use Rattle.job_text_digits.specs.Numbers.{decimal, digits, digit, places, placesWithin, hexadecimal16, RealText}
 use Rattle.job_text.specs.Text.{newline}
 use Rattle.job_text.specs.Text.{doneWord, Lines, DoneText, done, RefusedText, refused}
 use Rattle.job_text.specs.Text.Lines.{none as no-line, line}
-use Rattle.job_text.specs.Text.Spaced.{none as no-value, value}
-use Rattle.job_text.specs.Text.ValueText.{of-count}
+use Rattle.job_text_row.specs.Spaced.Spaced.{none as no-value, value}
+use Rattle.job_text_row.specs.Spaced.ValueText.{of-count}
 
 -- ---- one real
 

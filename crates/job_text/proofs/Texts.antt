@@ -1,14 +1,10 @@
--- Lines and values one behind the other. Assumes nothing.
-use mathlib.Core.List.{List, [], _∷_, _++_, append-assoc, append-nil}
+-- Lines one behind the other. Assumes nothing.
+use mathlib.Core.List.{List, [], _∷_, _++_, append-assoc}
 use Prim.Native.Nat.{ℕ}
 use lib.Ieee.{Float}
-use Rattle.error.specs.Refusals.{Carried}
-use Rattle.job_text_numbers.specs.Placed.{PlacedSome}
-use Rattle.job_text_numbers.specs.Numbers.{RealText}
-use Rattle.job_text.specs.Text.{ValueText, newline, space, Lines, Spaced}
+use Rattle.job_text_digits.specs.Numbers.{RealText}
+use Rattle.job_text.specs.Text.{newline, Lines}
 use Rattle.job_text.specs.Text.Lines.{none as no-line, line}
-use Rattle.job_text.specs.Text.Spaced.{none as no-value, value}
-use Rattle.job_text_numbers.proofs.Placing.{placed-append, some}
 
 -- one more line
 pub lines-next : {xs : List Float} {u : List ℕ} {x : Float} {t : List ℕ}
@@ -17,17 +13,3 @@ pub lines-next : {xs : List Float} {u : List ℕ} {x : Float} {t : List ℕ}
     → Lines (xs ++ (x ∷ [])) (u ++ (t ++ (newline ∷ [])))
 lines-next no-line r = line r no-line
 lines-next (line q l) r = rw append-assoc (line q (lines-next l r))
-
--- one value, and values behind others
-pub spaced-one : {v : Carried} {t : List ℕ} → ValueText v t → Spaced (v ∷ []) (space ∷ t)
-spaced-one h = rw append-nil at (value h no-value)
-
-pub spaced-append : {vs ws : List Carried} {t u : List ℕ} → Spaced vs t → Spaced ws u → Spaced (vs ++ ws) (t ++ u)
-spaced-append no-value q = q
-spaced-append (value h p) q = rw append-assoc (value h (spaced-append p q))
-
-pub spaced-behind : {vs ws : List Carried} {at : ℕ} {w w′ w″ : List ℕ} {next end : ℕ}
-    → PlacedSome at (Spaced vs) w w′ next
-    → PlacedSome next (Spaced ws) w′ w″ end
-    → PlacedSome at (Spaced (vs ++ ws)) w w″ end
-spaced-behind p q = some (spaced-append (p .holds) (q .holds)) (placed-append (p .placed) (q .placed))

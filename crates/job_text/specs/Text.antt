@@ -3,24 +3,14 @@ use mathlib.Core.List.{List, [], _∷_, _++_}
 use Prim.Native.Nat.{ℕ}
 use lib.ListN.{length}
 use lib.Ieee.{Float}
-use Rattle.error.specs.Refusals.{Carried, count, real, numberOf, valuesOf}
+use Rattle.error.specs.Refusals.{count, numberOf, valuesOf}
 use Rattle.error.specs.declared.Refusal.{Refusal}
-use Rattle.job_text_numbers.specs.Numbers.{decimal, RealText}
-
--- a value that a refusal carries: a count in decimal, a real in hexadecimal
-pub data ValueText : Carried → List ℕ → Type 0 where
-  of-count : {k : ℕ} → ValueText (count k) (decimal k)
-  of-real : {x : Float} {t : List ℕ} → RealText x t → ValueText (real x) t
-
--- ---- lines
+use Rattle.job_text_digits.specs.Numbers.{decimal, RealText}
+use Rattle.job_text_row.specs.Spaced.{space, Spaced}
 
 -- the byte that ends a line
 abbrev pub newline : ℕ
 newline = 10
-
--- the byte before a number or a value
-abbrev pub space : ℕ
-space = 32
 
 -- `done `
 abbrev pub doneWord : List ℕ
@@ -34,11 +24,6 @@ refusedWord = 114 ∷ 101 ∷ 102 ∷ 117 ∷ 115 ∷ 101 ∷ 100 ∷ []
 pub data Lines : List Float → List ℕ → Type 0 where
   none : Lines [] []
   line : {x : Float} {xs : List Float} {t u : List ℕ} → RealText x t → Lines xs u → Lines (x ∷ xs) (t ++ (newline ∷ u))
-
--- values, each after a single space
-pub data Spaced : List Carried → List ℕ → Type 0 where
-  none : Spaced [] []
-  value : {v : Carried} {vs : List Carried} {t u : List ℕ} → ValueText v t → Spaced vs u → Spaced (v ∷ vs) (space ∷ (t ++ u))
 
 -- an accepted job: `done n`, then one value a line
 pub data DoneText (values : List Float) : List ℕ → Type 0 where

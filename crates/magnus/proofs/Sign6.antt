@@ -95,7 +95,25 @@ module _ {K : Type 0} {A : Arithmetic K} (R : Ring A) (n : ℕ) where
         ∙ ap₂ (λ p q. (τ * k .sqrt15Over3) · (p ⊖ q)) (sym (linear1 .of-multiple (- τ) (P2 y)))
         (sym (linear3 .of-multiple (- τ) (P2 y))))
 
-    -- C1, C2 and Ω are the published ones by their text
+    -- C1, 2 B3 + C1, C2 and Ω are the published ones by their text
+    abbrev C1 : Operator A n
+    C1 = commutator A n B1 B2
+
+    abbrev TwoB3PlusC1 : Operator A n
+    TwoB3PlusC1 x = times (operators A n) 2 B3 x ⊕ C1 x
+
+    c1-is : (x : List K) → c1 S k τ P1 P2 P3 x ≡ C1 x
+    unfolding c1 commutator
+    c1-is x = simp (b1-is, b2-is)
+
+    two-b3-plus-c1-is : (x : List K) → twoB3PlusC1 S k τ P1 P2 P3 x ≡ TwoB3PlusC1 x
+    unfolding twoB3PlusC1
+    two-b3-plus-c1-is x = simp (b3-is, twice-is, c1-is)
+
+    c2-is : (x : List K) → c2 S k τ P1 P2 P3 x ≡ (- k .oneOver60) · commutator A n B1 TwoB3PlusC1 x
+    unfolding c2 commutator
+    c2-is x = simp (of-b1-is, b1-is, two-b3-plus-c1-is)
+
     pub omega6-as-published : AsPublished6 A n k τ P1 P2 P3
-    unfolding omega6 lop rop c2 c1 twoB3PlusC1 order6 commutator
-    omega6-as-published twenty v = simp (of-b1-is, b1-is, b2-is, b3-is, twice-is, minus-twenty-is twenty)
+    unfolding omega6 lop rop order6 commutator
+    omega6-as-published twenty v = simp (b1-is, b2-is, b3-is, c1-is, c2-is, minus-twenty-is twenty)

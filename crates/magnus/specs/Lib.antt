@@ -2,9 +2,5 @@ pub mod Operators
 pub mod OperatorArithmetic
 pub mod Omega6
 pub mod Coefficients
-pub mod Agree
-pub mod Formed
-pub mod FormedOmega6
 pub mod Ring
 pub mod Published
-pub mod Run

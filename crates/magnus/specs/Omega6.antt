@@ -1,6 +1,6 @@
 -- The exponent Ω of order 6 (01, part 9), operation by operation as magnus6_graph_helpers.rs forms it. It is written in
 -- operators, over any of them: over the operators on vectors (`onVectors`) it is what the code computes at a vector, and
--- over those that tell of each number formed whether it is finite (FormedOmega6.antt) it is the premise of demand 3.
+-- over those that tell of each number formed whether it is finite (the crate magnus_plain_sum) it is the premise of demand 3.
 -- Published.antt has the published formula, which it is over exact numbers. Assumes nothing.
 use lib.Ieee.{Float, binary64, ofBits}
 use Rattle.arithmetic.specs.Arithmetic.{Arithmetic}

@@ -1,5 +1,5 @@
 -- The arithmetic in which a formula in operators is read: operators with their sums, differences and compositions, and
--- numbers to multiply them by. The first instance are the operators on vectors of n places; FormedOmega6.antt has
+-- numbers to multiply them by. The first instance are the operators on vectors of n places; the crate magnus_plain_sum has
 -- another.
 use Prim.Native.Nat.{ℕ}
 use Rattle.arithmetic.specs.Arithmetic.{Arithmetic, vectors, scaled}

@@ -1,4 +1,4 @@
--- The formulas of order 4 (01, parts 5 to 7) and the plain sum of demand 3, over any arithmetic. An operator is a map of vectors of n places,
+-- The formulas of order 4 (01, parts 5 to 7), over any arithmetic. An operator is a map of vectors of n places,
 -- as the product with a sample is. Over the rounded operations of a format a formula is what the code computes, operation by operation.
 use mathlib.Core.List.{List}
 use Prim.Native.Nat.{ℕ, zero, suc}
@@ -6,12 +6,11 @@ use Rattle.arithmetic.specs.Arithmetic.{Arithmetic, vectors, scaled}
 
 module _ {K : Type 0} (A : Arithmetic K) (n : ℕ) where
   open Arithmetic A using (_*_)
-  open Arithmetic (vectors A n) using (_+_ as _⊕_, _-_ as _⊖_, _*_ as _⊙_, -_ as ⊖_)
+  open Arithmetic (vectors A n) using (_+_ as _⊕_, _-_ as _⊖_, _*_ as _⊙_)
 
   infixl 60 _⊕_ _⊖_
   infixr 65 _·_
   infixl 70 _*_ _⊙_
-  infix 80 ⊖_
   -- s times x, at each place
   abbrev _·_ : K → List K → List K
   _·_ = scaled A n
@@ -40,13 +39,3 @@ module _ {K : Type 0} (A : Arithmetic K) (n : ℕ) where
   unfoldable pub taylor : (ℕ → K) → ℕ → Operator → Operator
   taylor c zero W v = v
   taylor c (suc d) W v = taylor c d W v ⊕ c (suc d) · power W (suc d) v
-
-  -- The terms of the plain sum (01, demand 3): u 0 is the signal, u (k + 1) is τ · (-(L (u k))) at each place.
-  unfoldable pub plainTerm : K → Operator → ℕ → Operator
-  plainTerm τ P zero v = v
-  plainTerm τ P (suc k) v = τ · ⊖ P (plainTerm τ P k v)
-
-  -- The plain sum of degree d (01, demand 3): u 0 + c 1 · u 1 + .. + c d · u d, added left to right. It has one sample and no commutator.
-  unfoldable pub plainSum : (ℕ → K) → ℕ → K → Operator → Operator
-  plainSum c zero τ P v = v
-  plainSum c (suc d) τ P v = plainSum c d τ P v ⊕ c (suc d) · plainTerm τ P (suc d) v

@@ -14,11 +14,11 @@ use Rattle.error.specs.declared.Checked.the-variants.{Accepted, Refused}
 use Rattle.error.proofs.Left.{answers, answers-accepted, left-unchanged, left-written}
 use Rattle.graph_checks.specs.Pattern.{ValuedPattern}
 use Rattle.graph_rows.specs.RowProduct.{rowProduct64}
-use Rattle.magnus.specs.Operators.{plainSum}
+use Rattle.magnus_plain_sum.specs.PlainSum.{plainSum}
 use Rattle.magnus.specs.Omega6.{constants6}
 use Rattle.magnus.specs.Coefficients.{reciprocalFactorial}
-use Rattle.magnus.specs.Agree.{OfFormat}
-use Rattle.magnus.proofs.PlainSum6.{samples6-plain-sum}
+use Rattle.magnus_plain_sum.specs.Agree.{OfFormat}
+use Rattle.magnus_plain_sum.proofs.PlainSum6.{samples6-plain-sum}
 use Rattle.magnus_graph_faults.specs.StepChecks.{Sample}
 use Rattle.magnus6_graph_faults.specs.AcceptedStep6.{AcceptedStep6}
 use Rattle.magnus_graph_faults.proofs.StepSound.{refused-not-accepted}

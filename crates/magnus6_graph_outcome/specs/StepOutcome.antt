@@ -14,12 +14,12 @@ use Rattle.error.specs.declared.Checked.the-variants.{Accepted}
 use Rattle.error.specs.Checks.{ifAccepted}
 use Rattle.error.specs.Refusals.{Answers}
 use Rattle.graph_rows.specs.RowProduct.{rowProduct64}
-use Rattle.magnus.specs.Operators.{plainSum}
+use Rattle.magnus_plain_sum.specs.PlainSum.{plainSum}
 use Rattle.magnus.specs.Omega6.{constants6}
 use Rattle.magnus.specs.Coefficients.{reciprocalFactorial}
-use Rattle.magnus.specs.Agree.{SamplesAgree}
-use Rattle.magnus.specs.Formed.{FormedOperator, formedProduct}
-use Rattle.magnus.specs.FormedOmega6.{formedStep6}
+use Rattle.magnus_plain_sum.specs.Agree.{SamplesAgree}
+use Rattle.magnus_plain_sum.specs.Formed.{FormedOperator, formedProduct}
+use Rattle.magnus_plain_sum.specs.FormedOmega6.{formedStep6}
 use Rattle.magnus_graph_faults.specs.StepChecks.{Sample}
 use Rattle.magnus6_graph_faults.specs.Step6Checks.{step6Fault}
 use Rattle.magnus_graph_outcome.specs.StepOutcome.{StepInput, stepInput}

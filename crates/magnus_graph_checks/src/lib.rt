@@ -16,8 +16,7 @@ const FRAC_PI_2: f64 = 1.5707963267948966;
 pub fn is_positive(x: f64) -> bool
     ensures { λ r. ⌜ r ≡ not (notPositive x) ⌝ }
 {
-    let infinity = 1.0 / 0.0;
-    (0.0 < x) & (x < infinity)
+    (0.0 < x) & float::is_finite(x)
 }
 
 // Row 9, of one bound: it is finite and above 0.

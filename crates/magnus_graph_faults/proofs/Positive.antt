@@ -1,14 +1,13 @@
--- What rows 9 and 11 refuse, by comparisons: a value is not refused exactly when it lies above 0 and below infinity, and that is
--- when it is finite and above 0. Assumes nothing.
+-- What rows 9 and 11 refuse: a value is not refused exactly when it lies above 0 and is finite. Assumes nothing.
 use mathlib.Core.Path.{_≡_, refl, sym, ap, _∙_}
 use mathlib.Core.Logic.{_↔_}
-use mathlib.Core.Bool.{Bool, true, false, not, _&&_, _||_, and-true, and-eq-true-iff, false≢true}
+use mathlib.Core.Bool.{Bool, true, false, not, _&&_, _||_, and-true, and-eq-true-iff}
 use Prim.Native.Nat.{ℕ, _+_, _*_}
 use native.Mathlib.Omega.{arith}
 use native.Mathlib.Nat.{zero-mul}
 use lib.Dec.{ltb, eqb}
 use lib.IntN.{pos}
-use lib.Ieee.{Float, nan, inf, fin, binary64, up, down, lt, le, eq, div, ofBits}
+use lib.Ieee.{Float, nan, inf, fin, binary64, up, down, lt, le, eq, ofBits}
 use lib.Ieee.Scale.{finite}
 use borrow.Author.Tests.{ltb-true, ltb-false, eqb-true, eqb-false, lt-ltb, le-ltb, eq-eqb, not-true}
 use Rattle.rounding.specs.SignOfZero.{+0}
@@ -37,27 +36,19 @@ negative a z none = go (ltb 0 (a + z)) refl
         let h = ltb-false 0 (a + z) p in
         ap (λ (b : Bool). b && eqb a 0) (eq-eqb a z (omega arith)) ∙ eq-eqb a 0 (omega arith)
 
-between-zero-and-infinity : (x : Float) → (lt +0 x && lt x (inf false)) ≡ not (not (finite x) || le x +0)
+above-zero-and-finite : (x : Float) → (lt +0 x && finite x) ≡ not (not (finite x) || le x +0)
 unfolding lt le eq
-between-zero-and-infinity nan = refl
-between-zero-and-infinity (inf true) = refl
-between-zero-and-infinity (inf false) = refl
-between-zero-and-infinity (fin false m e) = and-true _ ∙ above (m * up e * down (pos 0)) (0 * up (pos 0) * down e)
-between-zero-and-infinity (fin true m e) =
+above-zero-and-finite nan = refl
+above-zero-and-finite (inf true) = refl
+above-zero-and-finite (inf false) = refl
+above-zero-and-finite (fin false m e) = and-true _ ∙ above (m * up e * down (pos 0)) (0 * up (pos 0) * down e)
+above-zero-and-finite (fin true m e) =
     sym (ap not (negative (m * up e * down (pos 0)) (0 * up (pos 0) * down e) (zero-mul (down e))))
 
 -- the test that the code makes
-pub positive-by-comparisons : (x : Float)
-    → (lt (ofBits binary64 0) x && lt x (div binary64 (ofBits binary64 0x3FF0_0000_0000_0000) (ofBits binary64 0)))
-    ≡ not (notPositive x)
-unfolding notPositive ofBits div
-positive-by-comparisons x = between-zero-and-infinity x
-
-below-infinity : (x : Float) → finite x ≡ true → lt x (inf false) ≡ true
-unfolding lt
-below-infinity nan p = absurd (false≢true p)
-below-infinity (inf s) p = absurd (false≢true p)
-below-infinity (fin s m e) p = refl
+pub positive-by-tests : (x : Float) → (lt (ofBits binary64 0) x && finite x) ≡ not (notPositive x)
+unfolding notPositive ofBits
+positive-by-tests x = above-zero-and-finite x
 
 -- what is not refused is positive, and no other value is
 pub positive-accepted : (x : Float) → (notPositive x ≡ false) ↔ Positive x
@@ -72,11 +63,11 @@ positive-accepted x = (says, holds)
     says h =
         record {
           is-finite = left-not (finite x) (le x +0) h;
-          above-zero = and-eq-true-iff _ _ .0 (between-zero-and-infinity x ∙ ap not h) .0;
+          above-zero = and-eq-true-iff _ _ .0 (above-zero-and-finite x ∙ ap not h) .0;
         }
 
     holds : Positive x → notPositive x ≡ false
     holds p =
         not-true _
-        (sym (between-zero-and-infinity x)
-        ∙ and-eq-true-iff _ _ .1 (p .above-zero, below-infinity x (p .is-finite)))
+        (sym (above-zero-and-finite x)
+        ∙ and-eq-true-iff _ _ .1 (p .above-zero, p .is-finite))

@@ -15,10 +15,10 @@ use Rattle.error.specs.declared.Checked.the-variants.{Accepted, Refused}
 use Rattle.error.proofs.Left.{answers, answers-accepted, left-unchanged, left-written}
 use Rattle.graph_checks.specs.Pattern.{Laplacian, ValuedPattern}
 use Rattle.graph_rows.specs.RowProduct.{rowProduct64}
-use Rattle.magnus.specs.Operators.{plainSum}
+use Rattle.magnus_plain_sum.specs.PlainSum.{plainSum}
 use Rattle.magnus.specs.Coefficients.{reciprocalFactorial}
-use Rattle.magnus.specs.Agree.{OfFormat}
-use Rattle.magnus.proofs.PlainSum.{samples-plain-sum}
+use Rattle.magnus_plain_sum.specs.Agree.{OfFormat}
+use Rattle.magnus_plain_sum.proofs.PlainSum.{samples-plain-sum}
 use Rattle.magnus_graph_outcome.specs.Omega4.{sqrt3Over12}
 use Rattle.magnus_graph_step.specs.Omega4.{expOmega4}
 use Rattle.magnus_graph_faults.specs.AcceptedStep.{StepInputs}

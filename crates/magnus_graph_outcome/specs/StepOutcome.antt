@@ -15,10 +15,10 @@ use Rattle.error.specs.declared.Checked.the-variants.{Accepted}
 use Rattle.error.specs.Checks.{ifAccepted}
 use Rattle.error.specs.Refusals.{Answers}
 use Rattle.graph_rows.specs.RowProduct.{rowProduct64}
-use Rattle.magnus.specs.Operators.{plainSum}
+use Rattle.magnus_plain_sum.specs.PlainSum.{plainSum}
 use Rattle.magnus.specs.Coefficients.{reciprocalFactorial}
-use Rattle.magnus.specs.Agree.{SamplesAgree}
-use Rattle.magnus.specs.Formed.{formedProduct, formedStep4}
+use Rattle.magnus_plain_sum.specs.Agree.{SamplesAgree}
+use Rattle.magnus_plain_sum.specs.Formed.{formedProduct, formedStep4}
 use Rattle.magnus_graph_outcome.specs.Omega4.{sqrt3Over12}
 use Rattle.magnus_graph_step.specs.Omega4.{expOmega4}
 use Rattle.magnus_graph_faults.specs.StepChecks.{Sample, stepFault}

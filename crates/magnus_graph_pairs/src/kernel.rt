@@ -94,8 +94,9 @@ fn products_in(
     let source_end = source + n;
     for i in 0..n {
         let sums = row_sums_of_one(row_ptr, col_idx, vals1, vals2, &work[source..source_end], i);
-        work[target + 2 * i] = sums.second;
-        work[target + (2 * i + 1)] = sums.first;
+        let t = target + 2 * i;
+        work[t] = sums.second;
+        work[t + 1] = sums.first;
     }
 }
 
@@ -136,8 +137,9 @@ fn omega_in(
             n,
             i,
         );
-        let b = work[source + 2 * i];
-        let a = work[source + (2 * i + 1)];
+        let s = source + 2 * i;
+        let b = work[s];
+        let a = work[s + 1];
         work[target + i] = scale * (a + b) + comm_scale * (sums.second - sums.first);
     }
 }

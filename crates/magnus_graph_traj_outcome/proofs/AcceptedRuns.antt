@@ -12,7 +12,7 @@ use borrow.Author.Tests.{ne-eqb}
 use Rattle.arithmetic.specs.Vector.{tabulate}
 use Rattle.error.specs.declared.Checked.{Checked}
 use Rattle.error.specs.declared.Checked.the-variants.{Accepted}
-use Rattle.magnus.specs.Agree.{OfFormat}
+use Rattle.magnus_plain_sum.specs.Agree.{OfFormat}
 use Rattle.magnus_graph_outcome.specs.StepOutcome.{forward, adjoint}
 use Rattle.graph_traj_segment.specs.Times.{segmentTau}
 use Rattle.graph_traj_parts.specs.Trajectory.{Trajectory}

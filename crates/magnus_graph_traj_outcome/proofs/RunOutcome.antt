@@ -17,8 +17,8 @@ use Rattle.error.specs.declared.Checked.{Checked}
 use Rattle.error.specs.declared.Checked.the-variants.{Accepted, Refused}
 use Rattle.error.proofs.Checks.{refused-here, accepted-then}
 use Rattle.error.proofs.Left.{answers, left-unchanged, left-written}
-use Rattle.magnus.specs.Run.{runAlong}
-use Rattle.magnus.proofs.PlainRun.{plain-run}
+use Rattle.magnus_plain_sum.specs.Run.{runAlong}
+use Rattle.magnus_plain_sum.proofs.PlainRun.{plain-run}
 use Rattle.magnus_graph_faults.proofs.StepSound.{refused-not-accepted}
 use Rattle.magnus_graph_traj_steps.specs.RunSteps.{RunStep, firstFault}
 use Rattle.magnus_graph_traj_steps.specs.StepsTaken.{StepsTaken}

@@ -11,9 +11,9 @@ use lib.Ieee.{Float, nan, binary64}
 use lib.Ieee.Fits.{add-fits, nan-fits}
 use Rattle.scratch.specs.Parts.{part}
 use Rattle.scratch.proofs.Parts.{getD-part}
-use Rattle.magnus.specs.Agree.{OfFormat}
-use Rattle.magnus.proofs.Agree.{tabulate-of-format}
-use Rattle.graph_traj_segment.specs.Laws.{lawValue, lawValues, byLaw, valuesAt}
+use Rattle.magnus_plain_sum.specs.Agree.{OfFormat}
+use Rattle.magnus_plain_sum.proofs.Agree.{tabulate-of-format}
+use Rattle.graph_traj_laws.specs.Laws.{lawValue, lawValues, byLaw, valuesAt}
 use Rattle.graph_traj_parts.specs.Trajectory.{Trajectory}
 use Rattle.magnus_graph_traj_steps.specs.RunSteps.{RunStep, Course, sampleAt}
 

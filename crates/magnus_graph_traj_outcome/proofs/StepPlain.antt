@@ -3,9 +3,9 @@ use mathlib.Core.Path.{refl}
 use lib.Dec.{T}
 use lib.Ieee.{Float, binary64, fits}
 use Rattle.magnus.specs.Coefficients.{reciprocalFactorial}
-use Rattle.magnus.specs.Agree.{OfFormat}
-use Rattle.magnus.proofs.Formed.{and-is}
-use Rattle.magnus.proofs.PlainSum.{samples-plain-sum}
+use Rattle.magnus_plain_sum.specs.Agree.{OfFormat}
+use Rattle.magnus_plain_sum.proofs.Formed.{and-is}
+use Rattle.magnus_plain_sum.proofs.PlainSum.{samples-plain-sum}
 use Rattle.magnus_graph_outcome.specs.Omega4.{sqrt3Over12}
 use Rattle.graph_traj_segment.specs.Times.{c1, c2}
 use Rattle.graph_traj_parts.specs.Trajectory.{Trajectory}

@@ -5,10 +5,10 @@ use mathlib.Core.List.{List}
 use lib.Ieee.{Float, binary64}
 use Rattle.rounding.specs.StepLength.{stepLength}
 use Rattle.arithmetic.specs.Arithmetic.{ieee}
-use Rattle.magnus.specs.Operators.{plainSum}
+use Rattle.magnus_plain_sum.specs.PlainSum.{plainSum}
 use Rattle.magnus.specs.Coefficients.{reciprocalFactorial}
-use Rattle.magnus.specs.Agree.{agree}
-use Rattle.magnus.specs.Formed.{FormedOperator, formedProduct, formedStep4}
+use Rattle.magnus_plain_sum.specs.Agree.{agree}
+use Rattle.magnus_plain_sum.specs.Formed.{FormedOperator, formedProduct, formedStep4}
 use Rattle.magnus_graph_outcome.specs.Omega4.{sqrt3Over12}
 use Rattle.graph_traj_segment.specs.Times.{c1, c2}
 use Rattle.graph_traj_parts.specs.Trajectory.{Trajectory}

@@ -13,8 +13,8 @@ use Rattle.error.specs.declared.Checked.{Checked}
 use Rattle.error.specs.declared.Checked.the-variants.{Accepted}
 use Rattle.error.specs.Checks.{next, ifAccepted}
 use Rattle.error.specs.Refusals.{Answers}
-use Rattle.magnus.specs.Formed.{FormedOperator}
-use Rattle.magnus.specs.Run.{runAlong, everyStep, formedAlong}
+use Rattle.magnus_plain_sum.specs.Formed.{FormedOperator}
+use Rattle.magnus_plain_sum.specs.Run.{runAlong, everyStep, formedAlong}
 use Rattle.magnus_graph_outcome.specs.StepOutcome.{forward, adjoint}
 use Rattle.graph_traj_parts.specs.Trajectory.{Trajectory}
 use Rattle.graph_traj_faults.specs.RunChecks.{runNeed, runFault}

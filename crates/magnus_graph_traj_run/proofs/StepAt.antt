@@ -9,9 +9,9 @@ use lib.Ieee.{Float}
 use Rattle.error.specs.declared.Checked.{Checked}
 use Rattle.magnus_graph_outcome.specs.StepOutcome.{forward, adjoint}
 use Rattle.graph_traj_segment.specs.declared.kernel.Segment.{Segment}
-use Rattle.graph_traj_segment.specs.Laws.{fraction}
+use Rattle.graph_traj_segment.specs.Times.{fraction}
 use Rattle.graph_traj_segment.specs.Times.{c1, c2, stepStart, adjointStepStart, sampleTime}
-use Rattle.graph_traj_segment.proofs.Laws.{list-within}
+use Rattle.graph_traj_laws.proofs.Laws.{list-within}
 use Rattle.graph_traj_breakpoints.specs.Breakpoints.{breakpoint}
 use Rattle.graph_traj_parts.specs.Trajectory.{Trajectory, AcceptedTrajectory}
 use Rattle.graph_traj_faults.specs.RunChecks.{tauOf, runNeed}

@@ -5,7 +5,7 @@ use lib.ListN.{getD}
 use lib.Ieee.{Float}
 use Rattle.error.specs.declared.Checked.{Checked}
 use Rattle.graph_traj_segment.specs.declared.kernel.Segment.{Segment}
-use Rattle.graph_traj_segment.specs.Laws.{fraction}
+use Rattle.graph_traj_segment.specs.Times.{fraction}
 use Rattle.graph_traj_segment.specs.Times.{c1, c2, sampleTime}
 use Rattle.graph_traj_parts.specs.Trajectory.{Trajectory}
 use Rattle.magnus_graph_traj_step.specs.RunStepTaken.{RunStepTaken}

@@ -12,7 +12,7 @@ use Rattle.error.specs.declared.Checked.the-variants.{Accepted}
 use Rattle.graph_rows.specs.RowProduct.{rowProduct64}
 use Rattle.magnus_graph_outcome.specs.Omega4.{sqrt3Over12}
 use Rattle.magnus_graph_step.specs.Omega4.{expOmega4}
-use Rattle.graph_traj_segment.specs.Laws.{valuesAt}
+use Rattle.graph_traj_laws.specs.Laws.{valuesAt}
 use Rattle.graph_traj_samples.specs.Sampled.{sampledFault}
 
 -- a step in segment k of pools of lists of m values, m the number of columns, by the segment's law

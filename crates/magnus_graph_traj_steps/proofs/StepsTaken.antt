@@ -15,7 +15,7 @@ use Rattle.error.specs.declared.Refusal.{Refusal}
 use Rattle.error.specs.declared.Checked.{Checked}
 use Rattle.error.specs.declared.Checked.the-variants.{Accepted, Refused}
 use Rattle.error.proofs.Checks.{next-refused, next-assoc, accepted-then}
-use Rattle.magnus.specs.Run.{runAlong}
+use Rattle.magnus_plain_sum.specs.Run.{runAlong}
 use Rattle.magnus_graph_faults.proofs.StepSound.{refused-not-accepted}
 use Rattle.magnus_graph_traj_steps.specs.RunSteps.{RunStep, stepIn, segmentSteps, firstFault}
 use Rattle.magnus_graph_traj_steps.specs.StepsTaken.{StepsTaken}

@@ -13,7 +13,8 @@ use Rattle.error.specs.declared.Checked.the-variants.{Accepted}
 use Rattle.graph_rows.specs.RowProduct.{rowProduct64}
 use Rattle.magnus_graph_outcome.specs.Omega4.{sqrt3Over12}
 use Rattle.magnus_graph_step.specs.Omega4.{expOmega4}
-use Rattle.graph_traj_segment.specs.Laws.{fraction, valuesAt}
+use Rattle.graph_traj_segment.specs.Times.{fraction}
+use Rattle.graph_traj_laws.specs.Laws.{valuesAt}
 use Rattle.graph_traj_breakpoints.specs.Breakpoints.{breakpoint}
 use Rattle.graph_traj_segment.specs.Times.{c1, c2, stepStart, adjointStepStart, sampleTime}
 use Rattle.graph_traj_parts.specs.Trajectory.{Trajectory}

@@ -8,7 +8,7 @@ use lib.Ieee.{Float}
 use Rattle.scratch.specs.Parts.{part}
 use Rattle.error.specs.declared.Checked.{Checked}
 use Rattle.error.specs.declared.Checked.the-variants.{Accepted}
-use Rattle.magnus.specs.Run.{runAlong}
+use Rattle.magnus_plain_sum.specs.Run.{runAlong}
 use Rattle.graph_traj_parts.specs.Trajectory.{Trajectory}
 use Rattle.graph_traj_faults.specs.RunChecks.{runNeed}
 use Rattle.magnus_graph_traj_steps.specs.RunSteps.{RunStep, Course, runStepFault, runStepImage, firstFault}

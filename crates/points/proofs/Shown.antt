@@ -31,7 +31,7 @@ use Rattle.job_step.specs.JobOutcome.{jobSign, jobStep, jobStepAnswer, jobStepO
 use Rattle.little_endian.specs.LittleEndian.{littleEndian}
 use Rattle.magnus.specs.Coefficients.{factorial, reciprocalFactorial}
 use Rattle.magnus.specs.Operators.{weighted, omega4, power, taylor}
-use Rattle.magnus.specs.Run.{runAlong}
+use Rattle.magnus_plain_sum.specs.Run.{runAlong}
 use Rattle.magnus_graph_faults.specs.StepChecks.{notPositive, boundFault, tauFault, radiusFault}
 use Rattle.varcoef_magnus_graph_faults.specs.WeightedStepChecks.{noNodesFault, weightedBound}
 use Rattle.varcoef_magnus_graph_faults.specs.WeightedStepChecks.{weightsLengthFault, sampleWeightsFault}
@@ -41,7 +41,7 @@ use Rattle.magnus_graph_faults.specs.StepChecks.{stepLengthFault, lengthsFault,
 use Rattle.varcoef_magnus_graph_faults.specs.WeightedStepChecks.{weightedStepFault}
 use Rattle.magnus_graph_traj_steps.specs.RunSteps.{firstFault}
 use Rattle.scratch.specs.Parts.{put}
-use Rattle.square_root.specs.SquareRoot.{squareRoot}
+use Rattle.ieee_square_root.specs.SquareRoot.{squareRoot}
 use Rattle.points.specs.Points.{Point, points, roots, products, steps, trajectories, x64, reals, answerOr, leaves, root}
 use Rattle.points.specs.Points.{noNodes, twoEntriesBefore, productOf, diagonal, swap, commutator, stepOf, stepOfTau, jobOf}
 use Rattle.points.specs.Points.{weightedStep, weightedOf, breakpoints, lookup, inSegment, outside, oneNode, noSteps}

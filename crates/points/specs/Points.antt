@@ -18,7 +18,7 @@ use Rattle.job_step.specs.JobOutcome.{jobAnswer, jobOutput}
 use Rattle.magnus_graph_faults.specs.StepChecks.{Sample, sample}
 use Rattle.magnus_graph_outcome.specs.StepOutcome.{StepInput, stepInput, forward, adjoint, stepAnswer, stepOutput, stepWork}
 use Rattle.magnus_graph_traj_outcome.specs.RunOutcome.{adjointRun, runAnswer, runOutput, runWork}
-use Rattle.square_root.specs.SquareRoot.{squareRoot}
+use Rattle.ieee_square_root.specs.SquareRoot.{squareRoot}
 use Rattle.varcoef_magnus_graph_outcome.specs.StepOutcome as Weighted
 
 -- ---- what a point is made of

@@ -1,36 +1,59 @@
 // Reading a stored list of test cases from standard input. lists/README.md has the format: each case is its kind in 2 bytes, the length of
 // the rest in 4, and that many bytes of fields; all numbers are little-endian.
-// `replay_fields` reads what a case holds, and `replay_answers` compares it with what a call answered and wrote.
+// `replay_fields` reads what a case holds, and compares it with what a call answered and wrote.
+ghost use mathlib.Core.Path.{_≡_};
+ghost use Prim.Native.Nat.{_≤_};
+ghost use lib.ListN.{length, take};
 use little_endian::kernel::word16;
 use little_endian::kernel::word32;
 
-// A case whose fields stand at the start of the buffer; or the list's end; or the point at which it is no list.
-pub enum Case {
-    Fields(u64, usize),
-    End,
-    Broken,
+// A case whose fields stand at the start of the buffer, so many bytes; or none: where the list has ended, it is whole there, and where it is
+// no list any more, it is not.
+pub struct Case {
+    pub found: bool,
+    pub whole: bool,
+    pub kind: u64,
+    pub len: usize,
 }
 
-// Reads the next case, its fields to the start of the buffer.
-pub fn next_case(buffer: &mut [u8]) -> Case {
+// No case.
+fn no_case(whole: bool) -> Case
+    ensures { λ r. ⌜ r .len ≡ 0 ⌝ }
+{
+    Case {
+        found: false,
+        whole,
+        kind: 0,
+        len: 0,
+    }
+}
+
+// Reads the next case, its fields to the start of the buffer. The second line of the contract follows from the first; both are stated so that
+// a caller's `&buffer[..len]` needs no proof of its own.
+pub fn next_case(buffer: &mut [u8]) -> Case
+    ensures { λ r. ⌜ r .len ≤ length (now (buffer .exit)) ⌝ }
+    ensures { λ r. ⌜ r .len ≡ length (take (r .len) (now (buffer .exit))) ⌝ }
+{
     let mut head = [0u8; 6];
     let got = io::read_full(0, &mut head);
-    if got == 0 {
-        return Case::End;
-    }
     if got < 6 {
-        return Case::Broken;
+        return no_case(got == 0);
     }
     let kind = word16(&head, 0);
     let len = word32(&head, 2) as usize;
     if buffer.len() < len {
-        return Case::Broken;
+        return no_case(false);
     }
     let read = io::read_full(0, &mut buffer[..len]);
     if read < len {
-        return Case::Broken;
+        return no_case(false);
     }
-    Case::Fields(kind, len)
+    Case {
+        found: true,
+        whole: true,
+        kind,
+        len,
+    }
 }
 
 const OUT: i32 = 1;

@@ -2,12 +2,11 @@
 // of any NaN match those of any NaN.
 use job_run::run_job;
 use job_text::TEXT;
-use replay::Case;
 use replay::Tally;
 use replay::next_case;
 use replay_fields::further;
 use replay_fields::number32;
-use replay_texts::are_alike;
+use replay_fields::texts::are_alike;
 
 // Whether a text is the one with which the case ends from a position on.
 fn text_right(text: &[u8], fields: &[u8], at: usize) -> bool {
@@ -29,22 +28,14 @@ fn job_right(fields: &[u8]) -> bool {
     text_right(&text[..length], fields, end)
 }
 
-// The same of the case whose fields stand at the start of the buffer.
-fn case_right(kind: u64, len: usize, buffer: &[u8]) -> bool {
-    if kind != 20 || buffer.len() < len {
-        return false;
-    }
-    job_right(&buffer[..len])
-}
-
 // One case more.
 fn step(buffer: &mut [u8], tally: Tally) -> Tally {
     let case = next_case(buffer);
-    match case {
-        Case::Fields(kind, len) => tally.counted(case_right(kind, len, buffer)),
-        Case::End => tally.stopped(true),
-        Case::Broken => tally.stopped(false),
+    if !case.found {
+        return tally.stopped(case.whole);
     }
+    let len = case.len;
+    tally.counted(case.kind == 20 && job_right(&buffer[..len]))
 }
 
 fn main() {

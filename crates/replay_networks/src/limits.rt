@@ -3,10 +3,10 @@ use crate::networks::is_bounded;
 use graph::apply_into_slice;
 use graph::from_csr_parts;
 use graph::gershgorin_bound_csr;
-use replay_answers::Answer;
-use replay_answers::acceptance;
-use replay_answers::is_checked;
-use replay_answers::size_refusal;
+use replay_fields::answers::Answer;
+use replay_fields::answers::acceptance;
+use replay_fields::answers::is_checked;
+use replay_fields::answers::size_refusal;
 use replay_fields::are_reals;
 
 // Whether the three calls on a network answer what is expected, the bound with the bits where that is the acceptance.

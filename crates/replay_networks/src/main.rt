@@ -6,7 +6,6 @@ use crate::limits::too_many_columns_right;
 use crate::limits::too_many_nodes_right;
 use crate::networks::network_right;
 use crate::signals::signal_right;
-use replay::Case;
 use replay::Tally;
 use replay::next_case;
 
@@ -23,22 +22,14 @@ fn right(kind: u64, fields: &[u8]) -> bool {
     }
 }
 
-// The same of the case whose fields stand at the start of the buffer.
-fn case_right(kind: u64, len: usize, buffer: &[u8]) -> bool {
-    if buffer.len() < len {
-        return false;
-    }
-    right(kind, &buffer[..len])
-}
-
 // One case more.
 fn step(buffer: &mut [u8], tally: Tally) -> Tally {
     let case = next_case(buffer);
-    match case {
-        Case::Fields(kind, len) => tally.counted(case_right(kind, len, buffer)),
-        Case::End => tally.stopped(true),
-        Case::Broken => tally.stopped(false),
+    if !case.found {
+        return tally.stopped(case.whole);
     }
+    let len = case.len;
+    tally.counted(right(case.kind, &buffer[..len]))
 }
 
 // The cases at the limits, one after the other.

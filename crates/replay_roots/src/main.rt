@@ -2,7 +2,6 @@
 use float::bits::from_bits;
 use float::bits::has_bits;
 use little_endian::kernel::word64;
-use replay::Case;
 use replay::Tally;
 use replay::next_case;
 use square_root::sqrt;
@@ -18,11 +17,11 @@ fn right(kind: u64, len: usize, fields: &[u8]) -> bool {
 // One case more.
 fn step(buffer: &mut [u8], tally: Tally) -> Tally {
     let case = next_case(buffer);
-    match case {
-        Case::Fields(kind, len) => tally.counted(right(kind, len, buffer)),
-        Case::End => tally.stopped(true),
-        Case::Broken => tally.stopped(false),
+    if !case.found {
+        return tally.stopped(case.whole);
     }
+    let len = case.len;
+    tally.counted(right(case.kind, len, buffer))
 }
 
 fn main() {

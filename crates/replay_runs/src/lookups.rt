@@ -1,16 +1,17 @@
 // The lookup of a segment: kinds 12 and, with breakpoints by rules, 16.
+use crate::rooms::times_room;
 use float::bits::from_bits;
 use graph_traj::Located;
 use graph_traj::segment_index;
-use replay_answers::Answer;
-use replay_answers::after_answer;
-use replay_answers::answer_at;
-use replay_answers::is_acceptance;
-use replay_answers::is_refusal;
+use replay_fields::answers::Answer;
+use replay_fields::answers::after_answer;
+use replay_fields::answers::answer_at;
+use replay_fields::answers::is_acceptance;
+use replay_fields::answers::is_refusal;
 use replay_fields::ends;
 use replay_fields::further;
 use replay_fields::number64;
-use replay_trajectories::read_breakpoints;
+use replay_rules::trajectories::read_breakpoints;
 
 // Whether what `segment_index` answered is expected: the segment of that index, where the acceptance is.
 fn is_located(expected: Answer, index: u64, located: Located) -> bool {
@@ -34,7 +35,7 @@ fn call_right(segments: usize, breakpoints: &[f64], fields: &[u8], at: usize) ->
 
 // The same for the segments and the breakpoints, with which the case starts.
 pub fn lookup_right(kind: u64, fields: &[u8]) -> bool {
-    let mut times = [0.0; 65537];
+    let mut times = times_room();
     let segments = number64(fields, 0) as usize;
     let breakpoints = read_breakpoints(kind, segments, fields, 8, &mut times);
     let b = breakpoints.count;

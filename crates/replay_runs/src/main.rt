@@ -2,40 +2,32 @@
 // compared in every bit. Any NaN matches any NaN.
 use crate::lookups::lookup_right;
 use crate::runs::run_right;
-use replay::Case;
 use replay::Tally;
 use replay::next_case;
 
 mod lookups;
 mod numbers;
+mod rooms;
 mod runs;
 mod weighted_runs;
 
-// A case of a kind, counted as right or wrong: whether its call does what the case says.
-fn counted(kind: u64, fields: &[u8], tally: Tally) -> Tally {
+// Whether the call of a kind does what the case says.
+fn right(kind: u64, fields: &[u8]) -> bool {
     match kind {
-        12 | 16 => tally.counted(lookup_right(kind, fields)),
-        13..=15 | 17..=19 => tally.counted(run_right(kind, fields)),
-        _ => tally.counted(false),
+        12 | 16 => lookup_right(kind, fields),
+        13..=15 | 17..=19 => run_right(kind, fields),
+        _ => false,
     }
-}
-
-// The same of the case whose fields stand at the start of the buffer.
-fn case_counted(kind: u64, len: usize, buffer: &[u8], tally: Tally) -> Tally {
-    if buffer.len() < len {
-        return tally.counted(false);
-    }
-    counted(kind, &buffer[..len], tally)
 }
 
 // One case more.
 fn step(buffer: &mut [u8], tally: Tally) -> Tally {
     let case = next_case(buffer);
-    match case {
-        Case::Fields(kind, len) => case_counted(kind, len, buffer, tally),
-        Case::End => tally.stopped(true),
-        Case::Broken => tally.stopped(false),
+    if !case.found {
+        return tally.stopped(case.whole);
     }
+    let len = case.len;
+    tally.counted(right(case.kind, &buffer[..len]))
 }
 
 fn main() {

@@ -1,32 +1,38 @@
 // The runs of order 4: kinds 13 (forward), 14 (adjoint) and 15 (weighted adjoint), and 17 to 19, the same by rules. The arrays have room for
-// every slice that a case of 65,536 bytes can have, or that the rules of the list give. A forward run has no τ, and an unweighted run has
+// every slice that a case of 65,536 bytes can have, or that the rules of the list give: up to 65,536 columns and segments, pools of four
+// times that, and work slices of up to 176,129 elements. A forward run has no τ, and an unweighted run has
 // no weights; neither call takes them.
 ghost use Prim.Native.Nat.{_≤_};
 ghost use Rattle.replay_fields.specs.Counts.{Counts};
 use crate::numbers::Numbers;
 use crate::numbers::is_forward;
 use crate::numbers::numbers_at;
+use crate::rooms::columns_room;
+use crate::rooms::laws_room;
+use crate::rooms::pool_room;
+use crate::rooms::times_room;
+use crate::rooms::vector_room;
+use crate::rooms::work_room;
 use crate::weighted_runs::is_weighted;
 use crate::weighted_runs::read_weights;
-use crate::weighted_runs::weighted_run;
 use error::Checked;
 use magnus_graph_traj::evolve_state_adjoint_into;
 use magnus_graph_traj::evolve_with_traj_into;
-use replay_answers::Answer;
-use replay_answers::answer_at;
-use replay_answers::work_right;
-use replay_answers::written_right;
 use replay_fields::Slice;
+use replay_fields::answers::Answer;
+use replay_fields::answers::answer_at;
+use replay_fields::answers::work_right;
+use replay_fields::answers::written_right;
 use replay_fields::further;
 use replay_fields::number64;
 use replay_fields::read_reals;
 use replay_rules::by_rules;
 use replay_rules::pool_length;
 use replay_rules::repeat_real;
-use replay_trajectories::read_breakpoints;
-use replay_trajectories::read_elements;
-use replay_trajectories::read_laws;
-use replay_trajectories::read_pattern;
+use replay_rules::trajectories::read_breakpoints;
+use replay_rules::trajectories::read_elements;
+use replay_rules::trajectories::read_laws;
+use replay_rules::trajectories::read_pattern;
 
 const MOST_NODES: usize = 4096;
 
@@ -59,6 +65,27 @@ fn cleared_by(kind: u64, expected: Answer, steps: usize, n: usize, m: usize) -> 
     match number {
         0 | 11 | 20 => work_need(kind, n, m),
         _ => 0,
+    }
+}
+
+// The work slice before a run: how many elements it has, the bits of each, and the position of the field after it.
+struct Work {
+    count: usize,
+    bits: u64,
+    next: usize,
+}
+
+// Makes the work slice of which the length and then the bits of each element stand at a position.
+fn work_before(fields: &[u8], at: usize, target: &mut [f64]) -> Work
+    ensures { λ r. ⌜ Counts (r .count) (now (target .exit)) ⌝ }
+{
+    let length = number64(fields, at) as usize;
+    let pattern = further(at, 8);
+    let work = repeat_real(fields, pattern, length, target);
+    Work {
+        count: work.count,
+        bits: number64(fields, pattern),
+        next: work.next,
     }
 }
 
@@ -99,7 +126,7 @@ fn evolved<'a>(
         );
     }
     if is_weighted(kind) {
-        return weighted_run(
+        return varcoef_magnus_graph_adjoint::evolve_state_adjoint_into(
             n,
             row_ptr,
             col_idx,
@@ -139,9 +166,23 @@ fn evolved<'a>(
     )
 }
 
-// Whether the run of a kind answers and writes what stands at a position, and leaves the work slice as it must. Each element of the work
-// slice has the bits before.
-fn outcome_right<'a>(
+// Whether a run answered and wrote what stands at a position, and left the work slice as it must. Each element of the work slice had the
+// bits before.
+fn outcome_right(
+    checked: Checked,
+    dst: &[f64],
+    work: &[f64],
+    cleared: usize,
+    before: u64,
+    fields: &[u8],
+    at: usize,
+) -> bool {
+    written_right(checked, dst, fields, at) && work_right(work, cleared, before)
+}
+
+// Whether the run of a kind does what the case says from a position on. First stand the length of the work slice and the bits that each of
+// its elements has before.
+fn call_right<'a>(
     kind: u64,
     n: usize,
     row_ptr: &[usize],
@@ -156,11 +197,21 @@ fn outcome_right<'a>(
     a_ends: &'a [f64],
     src: &[f64],
     dst: &mut [f64],
-    work: &mut [f64],
-    before: u64,
     fields: &[u8],
     at: usize,
 ) -> bool {
+    let mut room = work_room();
+    let before = work_before(fields, at, &mut room);
+    let next = before.next;
+    let cleared = cleared_by(
+        kind,
+        answer_at(fields, next),
+        numbers.steps,
+        n,
+        col_idx.len(),
+    );
+    let w = before.count;
+    let work = &mut room[..w];
     let checked = evolved(
         kind,
         n,
@@ -178,54 +229,7 @@ fn outcome_right<'a>(
         dst,
         work,
     );
-    let cleared = cleared_by(kind, answer_at(fields, at), numbers.steps, n, col_idx.len());
-    written_right(checked, dst, fields, at) && work_right(work, cleared, before)
-}
-
-// The same for the work slice, of which the length and then the bits of each element stand first at the position.
-fn work_slice_right<'a>(
-    kind: u64,
-    n: usize,
-    row_ptr: &[usize],
-    col_idx: &[u32],
-    segments: usize,
-    breakpoints: &[f64],
-    starts: &'a [f64],
-    ends: &'a [f64],
-    laws: &[u8],
-    numbers: Numbers,
-    a_starts: &'a [f64],
-    a_ends: &'a [f64],
-    src: &[f64],
-    dst: &mut [f64],
-    fields: &[u8],
-    at: usize,
-    room: &mut [f64],
-) -> bool {
-    let length = number64(fields, at) as usize;
-    let pattern = further(at, 8);
-    let work = repeat_real(fields, pattern, length, room);
-    let w = work.count;
-    outcome_right(
-        kind,
-        n,
-        row_ptr,
-        col_idx,
-        segments,
-        breakpoints,
-        starts,
-        ends,
-        laws,
-        numbers,
-        a_starts,
-        a_ends,
-        src,
-        dst,
-        &mut room[..w],
-        number64(fields, pattern),
-        fields,
-        work.next,
-    )
+    outcome_right(checked, dst, work, cleared, before.bits, fields, next)
 }
 
 // Reads the output before the call. By rules it has n elements, each the real that stands there.
@@ -251,12 +255,11 @@ fn vectors_right<'a>(
     laws: &[u8],
     fields: &[u8],
     at: usize,
-    work_room: &mut [f64],
 ) -> bool {
-    let mut weights1 = [0.0; 8192];
-    let mut weights2 = [0.0; 8192];
-    let mut signals = [0.0; 8192];
-    let mut outputs = [0.0; 8192];
+    let mut weights1 = vector_room();
+    let mut weights2 = vector_room();
+    let mut signals = vector_room();
+    let mut outputs = vector_room();
     let numbers = numbers_at(kind, fields, at);
     let first = read_weights(kind, n, fields, numbers.next, &mut weights1);
     let second = read_weights(kind, n, fields, first.next, &mut weights2);
@@ -266,7 +269,7 @@ fn vectors_right<'a>(
     let w2 = second.count;
     let s = src.count;
     let d = dst.count;
-    work_slice_right(
+    call_right(
         kind,
         n,
         row_ptr,
@@ -283,7 +286,6 @@ fn vectors_right<'a>(
         &mut outputs[..d],
         fields,
         dst.next,
-        work_room,
     )
 }
 
@@ -297,15 +299,14 @@ fn pools_right(
     breakpoints: &[f64],
     fields: &[u8],
     at: usize,
-    start_room: &mut [f64],
-    end_room: &mut [f64],
-    law_room: &mut [u8],
-    work_room: &mut [f64],
 ) -> bool {
+    let mut values1 = pool_room();
+    let mut values2 = pool_room();
+    let mut numbers = laws_room();
     let length = pool_length(segments, col_idx.len());
-    let starts = read_elements(kind, length, fields, at, start_room);
-    let ends = read_elements(kind, length, fields, starts.next, end_room);
-    let laws = read_laws(kind, segments, fields, ends.next, law_room);
+    let starts = read_elements(kind, length, fields, at, &mut values1);
+    let ends = read_elements(kind, length, fields, starts.next, &mut values2);
+    let laws = read_laws(kind, segments, fields, ends.next, &mut numbers);
     let s = starts.count;
     let e = ends.count;
     let l = laws.count;
@@ -316,93 +317,39 @@ fn pools_right(
         col_idx,
         segments,
         breakpoints,
-        &start_room[..s],
-        &end_room[..e],
-        &law_room[..l],
+        &values1[..s],
+        &values2[..e],
+        &numbers[..l],
         fields,
         laws.next,
-        work_room,
     )
 }
 
 // The same for the pattern, the segments and the breakpoints, with which the case starts.
-fn trajectory_right(
-    kind: u64,
-    fields: &[u8],
-    column_room: &mut [u32],
-    time_room: &mut [f64],
-    start_room: &mut [f64],
-    end_room: &mut [f64],
-    law_room: &mut [u8],
-    work_room: &mut [f64],
-) -> bool {
-    let mut row_ptr = [0usize; 8192];
-    let pattern = read_pattern(kind, fields, &mut row_ptr, column_room);
+pub fn run_right(kind: u64, fields: &[u8]) -> bool {
+    let mut starts = [0usize; 8192];
+    let mut columns = columns_room();
+    let mut times = times_room();
+    let pattern = read_pattern(kind, fields, &mut starts, &mut columns);
     let segments = number64(fields, pattern.next) as usize;
-    let breakpoints = read_breakpoints(kind, segments, fields, further(pattern.next, 8), time_room);
+    let breakpoints = read_breakpoints(
+        kind,
+        segments,
+        fields,
+        further(pattern.next, 8),
+        &mut times,
+    );
     let r = pattern.starts;
     let c = pattern.columns;
     let b = breakpoints.count;
     pools_right(
         kind,
         pattern.n,
-        &row_ptr[..r],
-        &column_room[..c],
+        &starts[..r],
+        &columns[..c],
         segments,
-        &time_room[..b],
+        &times[..b],
         fields,
         breakpoints.next,
-        start_room,
-        end_room,
-        law_room,
-        work_room,
     )
-}
-
-// Whether the run of a case does what the case says.
-fn stored_run_right(kind: u64, fields: &[u8]) -> bool {
-    let mut columns = [0u32; 16384];
-    let mut times = [0.0; 8192];
-    let mut starts = [0.0; 8192];
-    let mut ends = [0.0; 8192];
-    let mut laws = [0u8; 8192];
-    let mut work = [0.0; 512];
-    trajectory_right(
-        kind,
-        fields,
-        &mut columns,
-        &mut times,
-        &mut starts,
-        &mut ends,
-        &mut laws,
-        &mut work,
-    )
-}
-
-// The same by rules, which give up to 65,536 columns and segments, pools of four times that, and work slices of up to 176,129 elements.
-fn ruled_run_right(kind: u64, fields: &[u8]) -> bool {
-    let mut columns = [0u32; 65536];
-    let mut times = [0.0; 65537];
-    let mut starts = [0.0; 262144];
-    let mut ends = [0.0; 262144];
-    let mut laws = [0u8; 65536];
-    let mut work = [0.0; 176129];
-    trajectory_right(
-        kind,
-        fields,
-        &mut columns,
-        &mut times,
-        &mut starts,
-        &mut ends,
-        &mut laws,
-        &mut work,
-    )
-}
-
-// The same of either.
-pub fn run_right(kind: u64, fields: &[u8]) -> bool {
-    if by_rules(kind) {
-        return ruled_run_right(kind, fields);
-    }
-    stored_run_right(kind, fields)
 }

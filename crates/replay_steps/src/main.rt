@@ -1,38 +1,33 @@
 // Replays a stored list of steps of orders 4 and 6: each call is made again, and its answer and the slices that it writes are
 // compared in every bit. Any NaN matches any NaN.
 use crate::steps::step_right;
-use replay::Case;
 use replay::Tally;
 use replay::next_case;
 
+mod calls;
+mod numbers;
 mod order6;
+mod rooms;
 mod steps;
 mod weighted_steps;
+mod work;
 
-// A case of a kind, counted as right or wrong: whether its call does what the case says.
-fn counted(kind: u64, fields: &[u8], tally: Tally) -> Tally {
+// Whether the call of a kind does what the case says.
+fn right(kind: u64, fields: &[u8]) -> bool {
     match kind {
-        7..=11 => tally.counted(step_right(kind, fields)),
-        _ => tally.counted(false),
+        7..=11 => step_right(kind, fields),
+        _ => false,
     }
-}
-
-// The same of the case whose fields stand at the start of the buffer.
-fn case_counted(kind: u64, len: usize, buffer: &[u8], tally: Tally) -> Tally {
-    if buffer.len() < len {
-        return tally.counted(false);
-    }
-    counted(kind, &buffer[..len], tally)
 }
 
 // One case more.
 fn step(buffer: &mut [u8], tally: Tally) -> Tally {
     let case = next_case(buffer);
-    match case {
-        Case::Fields(kind, len) => case_counted(kind, len, buffer, tally),
-        Case::End => tally.stopped(true),
-        Case::Broken => tally.stopped(false),
+    if !case.found {
+        return tally.stopped(case.whole);
     }
+    let len = case.len;
+    tally.counted(right(case.kind, &buffer[..len]))
 }
 
 fn main() {

@@ -67,15 +67,19 @@ module _ {A : Type 0} where
   unfolding put
   put-none at f w = rw tabulate-none
 
-  sets-snoc : (w : List A) (at : ℕ) (v : List A) (x : A)
-      → sets w at (v ++ (x ∷ [])) ≡ set (sets w at v) (at + length v) x
-  sets-snoc w at [] x = rw add-zero
-  sets-snoc w at (y ∷ v) x = rw (add-suc, ← suc-add) (sets-snoc (set w at y) (suc at) v x)
+  sets-append : (w : List A) (at : ℕ) (u v : List A) → sets w at (u ++ v) ≡ sets (sets w at u) (at + length u) v
+  sets-append w at [] v = rw add-zero
+  sets-append w at (y ∷ u) v = rw (add-suc, ← suc-add) (sets-append (set w at y) (suc at) u v)
+
+  -- a vector is written in two parts
+  pub put-append : (at : ℕ) (u v w : List A) → put at (u ++ v) w ≡ put (at + length u) v (put at u w)
+  unfolding put
+  put-append at u v w = sets-append w at u v
 
   pub put-next : (at : ℕ) (f : ℕ → A) (i : ℕ) (w : List A)
       → put at (tabulate f (i + 1)) w ≡ set (put at (tabulate f i) w) (at + i) (f i)
   unfolding put
-  put-next at f i w = rw (tabulate-next, sets-snoc, length-tabulate f i)
+  put-next at f i w = rw (tabulate-next, sets-append, length-tabulate f i)
 
   -- the elements from index `at`, lent to a call that made them the image of src under f, are that vector written there
   pub image-placed : {B : Type 0} (f : B → A) (at : ℕ) (src : List B) (w x : List A)

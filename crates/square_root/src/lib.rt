@@ -1,7 +1,7 @@
 // The square root of an f64, as IEEE 754 has it: to nearest, ties to even (01, part 4). It is worked out from the bits.
 ghost use mathlib.Core.Path.{_≡_};
 ghost use lib.Ieee.{binary64};
-ghost use Rattle.square_root.specs.SquareRoot.{squareRoot};
+ghost use Rattle.ieee_square_root.specs.SquareRoot.{squareRoot};
 use kernel::estimate;
 use kernel::root_near;
 

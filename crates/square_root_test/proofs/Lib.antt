@@ -1,3 +1,1 @@
-pub mod SignBit
-pub mod Square
 pub mod Verified

@@ -9,12 +9,12 @@ use lib.Ieee.{Float, binary64, ofBits}
 use lib.IntN.{ℤ, pos, natAbs, _-ℤ_}
 use mir.Syntax.{w64}
 use mir.Val.{toZ}
-use Rattle.square_root.specs.SquareRoot.{squareRoot}
-use Rattle.square_root.specs.Steps.{halfDown, RootDigits, Normalized, Scaled, PatternOf}
-use Rattle.square_root.proofs.Exponent.{normal-exponent, normal-is}
-use Rattle.square_root.proofs.FromDigits.{root-is}
-use Rattle.square_root.proofs.Halving.{Placed, placed, half-placed, even-rest, rest-even, even-is, odd-is}
-use Rattle.square_root_test.proofs.SignBit.{both-set, same-set, all-digits, no-digits}
+use Rattle.ieee_square_root.specs.SquareRoot.{squareRoot}
+use Rattle.ieee_square_root.specs.Steps.{halfDown, RootDigits, Normalized, Scaled, PatternOf}
+use Rattle.ieee_square_root.proofs.Exponent.{normal-exponent, normal-is}
+use Rattle.ieee_square_root.proofs.FromDigits.{root-is}
+use Rattle.ieee_square_root.proofs.Halving.{Placed, placed, half-placed, even-rest, rest-even, even-is, odd-is}
+use Rattle.square_root_digits_test.proofs.SignBit.{both-set, same-set, all-digits, no-digits}
 
 -- the significand of a normal value, and with the factor 2 that an odd exponent, the field less 1023, leaves
 abbrev pub significand : ℕ → ℕ

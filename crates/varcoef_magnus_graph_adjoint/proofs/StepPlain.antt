@@ -4,10 +4,10 @@ use mathlib.Core.List.{List}
 use lib.Dec.{T}
 use lib.Ieee.{Float, binary64, fits}
 use Rattle.magnus.specs.Coefficients.{reciprocalFactorial}
-use Rattle.magnus.specs.Agree.{OfFormat}
-use Rattle.magnus.proofs.Agree.{agree-same}
-use Rattle.magnus.proofs.Formed.{and-is}
-use Rattle.magnus.proofs.PlainSum.{weighted-samples-plain-sum}
+use Rattle.magnus_plain_sum.specs.Agree.{OfFormat}
+use Rattle.magnus_plain_sum.proofs.Agree.{agree-same}
+use Rattle.magnus_plain_sum.proofs.Formed.{and-is}
+use Rattle.magnus_plain_sum.proofs.PlainSum.{weighted-samples-plain-sum}
 use Rattle.varcoef_magnus_graph_outcome.specs.WeightedOmega4.{sqrt3Over12}
 use Rattle.varcoef_magnus_graph_outcome.proofs.RootsAgree.{roots-same-list}
 use Rattle.graph_traj_segment.specs.Times.{c1, c2}

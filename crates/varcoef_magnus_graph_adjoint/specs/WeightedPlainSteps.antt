@@ -4,10 +4,10 @@ use mathlib.Core.Bool.{Bool, _&&_}
 use mathlib.Core.List.{List}
 use lib.Ieee.{Float, binary64}
 use Rattle.arithmetic.specs.Arithmetic.{ieee}
-use Rattle.magnus.specs.Operators.{plainSum}
+use Rattle.magnus_plain_sum.specs.PlainSum.{plainSum}
 use Rattle.magnus.specs.Coefficients.{reciprocalFactorial}
-use Rattle.magnus.specs.Agree.{agree}
-use Rattle.magnus.specs.Formed.{FormedOperator, formedWeighted, formedStep4}
+use Rattle.magnus_plain_sum.specs.Agree.{agree}
+use Rattle.magnus_plain_sum.specs.Formed.{FormedOperator, formedWeighted, formedStep4}
 use Rattle.varcoef_magnus_graph_outcome.specs.WeightedOmega4.{sqrt3Over12}
 use Rattle.graph_traj_segment.specs.Times.{c1, c2}
 use Rattle.graph_traj_parts.specs.Trajectory.{Trajectory}

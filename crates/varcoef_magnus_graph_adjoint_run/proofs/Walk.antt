@@ -12,13 +12,13 @@ use Rattle.arithmetic.specs.Vector.{tabulate}
 use Rattle.arithmetic.specs.Arithmetic.{ieee}
 use Rattle.scratch.specs.Parts.{part, put}
 use Rattle.scratch.proofs.Parts.{part-of-put, part-of-put-before}
-use Rattle.square_root.specs.SquareRoot.{squareRoot}
+use Rattle.ieee_square_root.specs.SquareRoot.{squareRoot}
 use Rattle.error.specs.Checks.{next}
 use Rattle.error.specs.declared.Refusal.{Refusal}
 use Rattle.error.specs.declared.Checked.{Checked}
 use Rattle.error.specs.declared.Checked.the-variants.{Accepted, Refused}
 use Rattle.graph_rows.specs.RowProduct.{rowProduct64}
-use Rattle.magnus.specs.Run.{runAlong}
+use Rattle.magnus_plain_sum.specs.Run.{runAlong}
 use Rattle.magnus.specs.Operators.{taylor}
 use Rattle.magnus.specs.Coefficients.{reciprocalFactorial}
 use Rattle.magnus_graph_outcome.specs.StepOutcome.{adjoint}
@@ -28,7 +28,8 @@ use Rattle.magnus_graph_faults.proofs.StepSound.{refused-not-accepted}
 use Rattle.varcoef_magnus_graph_outcome.specs.WeightedOmega4.{sqrt3Over12}
 use Rattle.varcoef_magnus_graph_taylor_term.specs.WeightedOmega4.{weightedOmega4}
 use Rattle.graph_traj_segment.specs.declared.kernel.Segment.{Segment}
-use Rattle.graph_traj_segment.specs.Laws.{fraction, lawValues}
+use Rattle.graph_traj_segment.specs.Times.{fraction}
+use Rattle.graph_traj_laws.specs.Laws.{lawValues}
 use Rattle.graph_traj_segment.specs.Times.{c1, c2, adjointStepStart, sampleTime}
 use Rattle.magnus_graph_traj_steps.specs.RunSteps.{RunStep, stepIn, segmentSteps, firstFault}
 use Rattle.varcoef_magnus_graph_traj_step.specs.StepTaken.{Kept, StepTaken, stepImage}

@@ -6,7 +6,8 @@ ghost use lib.ListN.{length};
 ghost use Rattle.graph_checks.specs.Pattern.{Pattern, ValuedPattern};
 ghost use Rattle.magnus_graph_outcome.specs.StepOutcome.{adjoint};
 ghost use Rattle.varcoef_magnus_graph_faults.specs.WeightedStepChecks.{weightFault};
-ghost use Rattle.graph_traj_segment.specs.Laws.{fraction, lawValues};
+ghost use Rattle.graph_traj_segment.specs.Times.{fraction};
+ghost use Rattle.graph_traj_laws.specs.Laws.{lawValues};
 ghost use Rattle.graph_traj_segment.specs.Times.{c1, c2, adjointStepStart, sampleTime};
 ghost use Rattle.graph_traj_parts.specs.Trajectory.{trajectory, AcceptedAdjointTrajectory};
 ghost use Rattle.magnus_graph_traj_steps.specs.RunSteps.{segmentSteps, adjointCourse};
@@ -15,12 +16,12 @@ ghost use Rattle.magnus_graph_traj_steps.specs.StepsTaken.{StepsTaken};
 ghost use Rattle.varcoef_magnus_graph_traj_steps.specs.SampledSteps.{sampledStepFault, sampledStepImage};
 ghost use Rattle.varcoef_magnus_graph_traj_steps.specs.WeightedRunSteps.{weightedRunStepFault, weightedRunStepImage};
 use error::Checked;
+use graph_traj_laws::kernel::law_list;
 use graph_traj_segment::kernel::Segment;
-use graph_traj_segment::kernel::law_list;
 use varcoef_magnus_graph::SQRT3_OVER_12_F64;
 use varcoef_magnus_graph_checks::check_sample_weights;
 use varcoef_magnus_graph_products::kernel::load_roots;
-use varcoef_magnus_graph_traj_step::kernel::constant_taylor4;
+use varcoef_magnus_graph_traj_constant::kernel::constant_taylor4;
 use varcoef_magnus_graph_traj_step::kernel::sampled_step;
 
 // The step that comes next in a segment of law 2, in an adjoint run of so many steps.

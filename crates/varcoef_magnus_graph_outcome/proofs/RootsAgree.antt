@@ -9,7 +9,7 @@ use lib.Ieee.{Float, nan, inf, fin, Format}
 use Rattle.rounding.specs.SignOfZero.{Zero, Same, same-is}
 use Rattle.rounding.proofs.Same.{same-equal}
 use Rattle.arithmetic.specs.SameList.{SameList}
-use Rattle.square_root.specs.SquareRoot.{squareRoot}
+use Rattle.ieee_square_root.specs.SquareRoot.{squareRoot}
 
 -- a zero is its own root
 zero-root : (f : Format) (x : Float) → Zero x → Zero (squareRoot f x)

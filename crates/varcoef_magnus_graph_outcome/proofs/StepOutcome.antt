@@ -10,18 +10,19 @@ use Rattle.arithmetic.specs.Arithmetic.{ieee}
 use Rattle.arithmetic.specs.SameList.{SameList}
 use Rattle.arithmetic.proofs.UpToZero.{same-list-refl}
 use Rattle.scratch.specs.Parts.{put, zeros}
-use Rattle.square_root.specs.SquareRoot.{squareRoot}
+use Rattle.ieee_square_root.specs.SquareRoot.{squareRoot}
 use Rattle.error.specs.declared.Refusal.{Refusal}
 use Rattle.error.specs.declared.Checked.{Checked}
 use Rattle.error.specs.declared.Checked.the-variants.{Accepted, Refused}
 use Rattle.error.proofs.Left.{answers, answers-accepted, left-unchanged, left-written}
 use Rattle.graph_checks.specs.Pattern.{ValuedPattern}
 use Rattle.graph_rows.specs.RowProduct.{rowProduct64}
-use Rattle.magnus.specs.Operators.{weighted, plainSum}
+use Rattle.magnus.specs.Operators.{weighted}
+use Rattle.magnus_plain_sum.specs.PlainSum.{plainSum}
 use Rattle.magnus.specs.Coefficients.{reciprocalFactorial}
-use Rattle.magnus.specs.Agree.{OfFormat}
-use Rattle.magnus.proofs.Agree.{agree-same}
-use Rattle.magnus.proofs.PlainSum.{weighted-samples-plain-sum}
+use Rattle.magnus_plain_sum.specs.Agree.{OfFormat}
+use Rattle.magnus_plain_sum.proofs.Agree.{agree-same}
+use Rattle.magnus_plain_sum.proofs.PlainSum.{weighted-samples-plain-sum}
 use Rattle.magnus_graph_step.specs.Omega4.{expOmega4}
 use Rattle.magnus_graph_outcome.proofs.StepOutcome.{valued}
 use Rattle.varcoef_magnus_graph_faults.specs.AcceptedWeightedStep.{AcceptedWeightedStep}

@@ -10,16 +10,17 @@ use Rattle.rounding.specs.StepLength.{stepLength}
 use Rattle.arithmetic.specs.Arithmetic.{ieee}
 use Rattle.arithmetic.specs.SameList.{SameList}
 use Rattle.scratch.specs.Parts.{put, zeros}
-use Rattle.square_root.specs.SquareRoot.{squareRoot}
+use Rattle.ieee_square_root.specs.SquareRoot.{squareRoot}
 use Rattle.error.specs.declared.Checked.{Checked}
 use Rattle.error.specs.declared.Checked.the-variants.{Accepted}
 use Rattle.error.specs.Checks.{ifAccepted}
 use Rattle.error.specs.Refusals.{Answers}
 use Rattle.graph_rows.specs.RowProduct.{rowProduct64}
-use Rattle.magnus.specs.Operators.{weighted, plainSum}
+use Rattle.magnus.specs.Operators.{weighted}
+use Rattle.magnus_plain_sum.specs.PlainSum.{plainSum}
 use Rattle.magnus.specs.Coefficients.{reciprocalFactorial}
-use Rattle.magnus.specs.Agree.{agree, SamplesAgree}
-use Rattle.magnus.specs.Formed.{FormedOperator, formedProduct, formedWeighted, formedStep4}
+use Rattle.magnus_plain_sum.specs.Agree.{agree, SamplesAgree}
+use Rattle.magnus_plain_sum.specs.Formed.{FormedOperator, formedProduct, formedWeighted, formedStep4}
 use Rattle.magnus_graph_step.specs.Omega4.{expOmega4}
 use Rattle.magnus_graph_faults.specs.StepChecks.{Sample}
 use Rattle.varcoef_magnus_graph_faults.specs.WeightedStepChecks.{weightedStepFault}

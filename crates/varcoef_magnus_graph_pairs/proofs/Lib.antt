@@ -1,3 +1,4 @@
 pub mod Walks
+pub mod Turns
 pub mod Formed
 pub mod WeightedPairs

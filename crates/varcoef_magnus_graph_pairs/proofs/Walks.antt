@@ -1,18 +1,16 @@
 -- What the walks over pairs of a weighted step write, where a walk writes several vectors: pairs within one of them and pairs outside of
 -- it. For any arithmetic. Assumes nothing.
 use mathlib.Core.Path.{_≡_, sym, ap, _∙_}
-use mathlib.Core.Logic.{_⊎_, inr}
+use mathlib.Core.Logic.{_⊎_}
 use mathlib.Core.List.{List}
 use Prim.Native.Nat.{ℕ, _+_, _*_, _≤_, _<_}
 use native.Mathlib.Omega.{arith}
 use lib.ListN.{getD, set}
-use Rattle.arithmetic.specs.Vector.{tabulate}
 use Rattle.arithmetic.specs.Arithmetic.{Arithmetic, at}
-use Rattle.arithmetic.proofs.Tabulate.{tabulate-same}
 use Rattle.arithmetic.proofs.Product.{at-tabulate}
 use Rattle.scratch.specs.Parts.{part}
 use Rattle.scratch.proofs.Parts.{getD-part, getD-kept}
-use Rattle.scratch.proofs.Writing.{Written, WrittenOver, written-outside, outside-kept, kept-below, read-here}
+use Rattle.scratch.proofs.Writing.{Written, WrittenOver, written-outside, read-here}
 use Rattle.graph_pairs.specs.Pairs.{alternate}
 use Rattle.graph_pairs.proofs.Pairs.{pair-written}
 use Rattle.magnus_graph_helpers.specs.Terms.{omega4Sum}
@@ -46,15 +44,6 @@ module _ {K : Type 0} where
     here = written-outside (written-outside (over .here) k x far-k) l y far-l;
   }
 
-  -- m elements behind the vectors at 0 and n, which a turn writes too
-  pub behind-both : {f g : ℕ → K} {n : ℕ} {w₀ : List K} {i j : ℕ} {u : List K}
-      → WrittenOver n g n (Written 0 f n w₀ i) j u
-      → (a m : ℕ)
-      → 2 * n ≤ a
-      → part a m u ≡ part a m w₀
-  behind-both {w₀ = w₀} over a m far =
-      kept-below over a m w₀ (inr (omega arith)) (λ v told. outside-kept told a m (inr (omega arith)))
-
   -- the element at the turn's own place of the vector at 0, which is not yet written; w is what has become of u by writing elsewhere
   pub read-own : {f : ℕ → K} {n : ℕ} {w₀ : List K} {i : ℕ} {u : List K} (w : List K)
       → Written 0 f n w₀ i u
@@ -71,6 +60,3 @@ module _ {K : Type 0} (A : Arithmetic K) (n : ℕ) (scale commScale : K) (a b c 
   omega-at i h =
       ap (λ x. at A x i) (sym (omega4-sum-walk A n scale commScale a b c d))
       ∙ at-tabulate A (omega4SumAt A scale commScale a b c d) n i h
-
-  pub omega-elements : tabulate (λ i. at A (omega4Sum A n scale commScale a b c d) i) n ≡ omega4Sum A n scale commScale a b c d
-  omega-elements = tabulate-same _ _ n omega-at ∙ omega4-sum-walk A n scale commScale a b c d

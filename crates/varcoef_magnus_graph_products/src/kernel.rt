@@ -7,7 +7,7 @@ ghost use lib.ListN.{length};
 ghost use lib.Ieee.{binary64};
 ghost use Rattle.arithmetic.specs.Arithmetic.{ieee, multiplied};
 ghost use Rattle.scratch.specs.Parts.{part, put, Apart};
-ghost use Rattle.square_root.specs.SquareRoot.{squareRoot};
+ghost use Rattle.ieee_square_root.specs.SquareRoot.{squareRoot};
 ghost use Rattle.graph_checks.specs.Pattern.{ValuedPattern};
 ghost use Rattle.graph_rows.specs.RowProduct.{rowProduct64};
 ghost use Rattle.varcoef_magnus_graph_products.specs.WeightedProduct.{withProduct};

@@ -15,7 +15,7 @@ ghost use lib.Ieee.{binary64};
 ghost use Rattle.rounding.specs.StepLength.{minusHalf};
 ghost use Rattle.arithmetic.specs.Arithmetic.{ieee};
 ghost use Rattle.scratch.specs.Parts.{part, put, zeros};
-ghost use Rattle.square_root.specs.SquareRoot.{squareRoot};
+ghost use Rattle.ieee_square_root.specs.SquareRoot.{squareRoot};
 ghost use Rattle.graph_checks.specs.Pattern.{ValuedPattern};
 ghost use Rattle.graph_rows.specs.RowProduct.{rowProduct64};
 ghost use Rattle.magnus.specs.Operators.{weighted};

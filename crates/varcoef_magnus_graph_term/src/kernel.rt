@@ -15,8 +15,8 @@ use graph_pairs::kernel::row_sums_of_two;
 
 // A term of order 4 from the n pairs of a and b at `pairs` and the scaled vectors r1 · b and r2 · a, the pairs at `source`. At each place Ωv
 // is o = scale · (a + b) + comm_scale · (c - d), where c is r2 times the second sample's product with r2 · a and d is r1 times the first
-// one's with r1 · b. The vector at n becomes o, to the sum at 0 coefficient · o is added, and the pairs at `scaled` become r1 · o and r2 · o.
-// They lie between the pairs that are read; the roots and the values lie behind.
+// one's with r1 · b. To the sum at 0 coefficient · o is added, and the pairs at `scaled`, which lie between those that are read, become
+// r1 · o and r2 · o. The roots and the values lie behind.
 pub fn rooted_term_in(
     row_ptr: &[usize],
     col_idx: &[u32],
@@ -32,7 +32,7 @@ pub fn rooted_term_in(
     coefficient: f64,
 )
     requires { ⌜ Pattern n (now «row_ptr») (now «col_idx») ⌝ }
-    requires { ⌜ (2 * n ≤ pairs) × (pairs + 2 * n ≤ scaled) × (scaled + 2 * n ≤ source) × (source + 2 * n ≤ roots) ⌝ }
+    requires { ⌜ (n ≤ pairs) × (pairs + 2 * n ≤ scaled) × (scaled + 2 * n ≤ source) × (source + 2 * n ≤ roots) ⌝ }
     requires { ⌜ (roots + 2 * n ≤ values) × (values + 2 * length (now «col_idx») ≤ length (now work)) ⌝ }
     ensures { λ _. let A = ieee binary64 in
         let w = now (work .entry) in
@@ -46,7 +46,7 @@ pub fn rooted_term_in(
         let c = multiplied A n (seconds A n r) (L2 (seconds A n s)) in
         let d = multiplied A n (firsts A n r) (L1 (firsts A n s)) in
         let o = omega4Sum A n scale «comm_scale» a b c d in
-        ⌜ now (work .exit) ≡ put scaled (scaledPairs n r o) (put n o (put 0 (plusScaled A n (part 0 n w) coefficient o) w)) ⌝ }
+        ⌜ now (work .exit) ≡ put scaled (scaledPairs n r o) (put 0 (plusScaled A n (part 0 n w) coefficient o) w) ⌝ }
 {
     let values_end = values + 2 * col_idx.len();
     let source_end = source + 2 * n;
@@ -69,7 +69,6 @@ pub fn rooted_term_in(
         let b = work[p + 1];
         let o = scale * (a + b) + comm_scale * (c - d);
         work[i] = work[i] + coefficient * o;
-        work[n + i] = o;
         let s = scaled + 2 * i;
         work[s] = r1 * o;
         work[s + 1] = r2 * o;

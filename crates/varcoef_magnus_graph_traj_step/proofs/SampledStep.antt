@@ -11,8 +11,8 @@ use Rattle.arithmetic.specs.Arithmetic.{Arithmetic, ieee}
 use Rattle.arithmetic.proofs.Tabulate.{length-tabulate, tabulate-same}
 use Rattle.scratch.specs.Parts.{part, put}
 use Rattle.scratch.proofs.Parts.{Wrote, wrote, length-part, part-whole, part-of-put-before}
-use Rattle.square_root.specs.SquareRoot.{squareRoot}
-use Rattle.square_roots.proofs.Roots.{roots-of}
+use Rattle.ieee_square_root.specs.SquareRoot.{squareRoot}
+use Rattle.square_roots_estimates.proofs.Roots.{roots-of}
 use Rattle.error.specs.Checks.{next}
 use Rattle.error.specs.declared.Refusal.{Refusal}
 use Rattle.error.specs.declared.Checked.{Checked}
@@ -26,13 +26,13 @@ use Rattle.magnus.specs.Coefficients.{reciprocalFactorial}
 use Rattle.magnus_graph_step.specs.Omega4.{expOmega4}
 use Rattle.magnus_graph_outcome.specs.StepOutcome.{adjoint}
 use Rattle.varcoef_magnus_graph_faults.specs.WeightedStepChecks.{weightFault}
-use Rattle.magnus_graph_helpers.specs.Terms.{TermsAdded}
 use Rattle.magnus_graph_faults.proofs.StepSound.{refused-not-accepted}
 use Rattle.varcoef_magnus_graph_outcome.specs.WeightedOmega4.{sqrt3Over12}
-use Rattle.graph_traj_segment.specs.Laws.{lawValues}
+use Rattle.graph_traj_laws.specs.Laws.{lawValues}
 use Rattle.graph_traj_samples.specs.Sampled.{sampledFault, lawPairs}
 use Rattle.graph_traj_samples.proofs.Sampled.{first-values, second-values}
 use Rattle.varcoef_magnus_graph_traj_step.specs.StepTaken.{Kept, StepTaken}
+use Rattle.varcoef_magnus_graph_traj_step.specs.SignalScaled.{SumFormed}
 use Rattle.varcoef_magnus_graph_traj_step.proofs.Kept.{kept-then, kept-put}
 use Rattle.varcoef_magnus_graph_traj_step.proofs.Terms.{sampledOmega}
 
@@ -50,13 +50,6 @@ whole-values : (m : ℕ) (f : Float) (starts ends : List Float) → length start
     → lawValues m f (part (0 * m) m starts) (part (0 * m) m ends) ≡ lawValues (length starts) f starts ends
 whole-values m f starts ends size-starts size-ends =
     λ i. lawValues (sym size-starts i) f (whole-pool m starts size-starts i) (whole-pool m ends size-ends i)
-
-pub whole-pairs : (f1 f2 : Float) (starts ends : List Float) → length ends ≡ length starts → (at : ℕ) (w : List Float)
-    → let m = length starts in
-    put at (lawPairs m f1 f2 (part (0 * m) m starts) (part (0 * m) m ends)) w ≡ put at (lawPairs m f1 f2 starts ends) w
-whole-pairs f1 f2 starts ends size at w =
-    let m = length starts in
-    λ i. put at (lawPairs m f1 f2 (whole-pool m starts refl i) (whole-pool m ends size i)) w
 
 -- the roots of pairs are the pairs of the roots
 first-roots : (n : ℕ) (x : List Float) → firsts A n (map root x) ≡ map root (firsts A n x)
@@ -195,7 +188,7 @@ module _ (n : ℕ) (rowStarts cols : List ℕ) (τ f1 f2 : Float) (starts ends a
             ∙ ap (part 0 n) (sampled .1) ∙ part-of-put-before (11 * n) x w 0 n (omega arith)
 
         pub sampled-taken : {w₄ : List Float}
-            → TermsAdded A n (8 * n) (reciprocalFactorial binary64) 4 (sampledOmega n rowStarts cols sqrt3Over12 adjoint τ w₃) w₃ w₄
+            → SumFormed n (reciprocalFactorial binary64) 4 (sampledOmega n rowStarts cols sqrt3Over12 adjoint τ w₃) w₃ w₄
             → StepTaken n rowStarts cols τ x1 x2 a1 a2 Accepted w w₄
         sampled-taken {w₄} terms =
             let roots-kept : Kept need w₂ w₃ =

@@ -1,5 +1,5 @@
--- The terms of a weighted step (01, parts 7 and 10), from the calls that form them in the work slice: with both samples as pairs, and with
--- one list for both. Each call leaves the roots and the values, so that all terms have the same products. Assumes nothing.
+-- The terms of a weighted step with both samples as pairs (01, parts 7 and 10), from the calls that form them in the work slice. Each call
+-- leaves the roots and the values, so that all terms have the same products. Assumes nothing.
 use mathlib.Core.Path.{_≡_, refl, sym, ap, _∙_}
 use mathlib.Core.List.{List}
 use Prim.Native.Nat.{ℕ, _+_, _*_, _≤_}
@@ -16,20 +16,15 @@ use Rattle.scratch.proofs.Parts.{Wrote, wrote, part-of-put-before}
 use Rattle.graph_rows.specs.RowProduct.{rowProduct64}
 use Rattle.graph_pairs.specs.Pairs.{firsts, seconds}
 use Rattle.magnus.specs.Operators.{Operator, weighted, omega4}
-use Rattle.magnus_graph_helpers.specs.Terms.{omega4Sum, omega4-sum, TermAdded}
-use Rattle.magnus_graph_helpers.proofs.Terms.{room-left, term4-constant-added, signal-copied}
-use Rattle.varcoef_magnus_graph_taylor_term.specs.WeightedOmega4.{weightedOmega4}
-use Rattle.varcoef_magnus_graph_products.proofs.WeightedProduct.{weighted-written, weighted-placed, roots-kept}
+use Rattle.magnus_graph_helpers.specs.Terms.{omega4Sum, omega4-sum}
 use Rattle.varcoef_magnus_graph_pairs.specs.WeightedPairs.{scaledPairs, rootedPairs, exchangedPairs}
 use Rattle.varcoef_magnus_graph_pairs.proofs.Formed.{formed}
 use Rattle.varcoef_magnus_graph_pairs.proofs.WeightedPairs.{first-scaled, second-scaled, first-exchanged, second-exchanged}
 use Rattle.varcoef_magnus_graph_pairs.proofs.WeightedPairs.{first-rooted, second-rooted}
-use Rattle.varcoef_magnus_graph_traj_step.specs.SignalScaled.{SignalScaled}
+use Rattle.varcoef_magnus_graph_traj_step.specs.SignalScaled.{SignalScaled, ScaledTermAdded}
 
 abbrev A : Arithmetic Float
 A = ieee binary64
-
--- ---- both samples as pairs
 
 module _ (n : ℕ) (rowStarts cols : List ℕ) where
   abbrev m : ℕ
@@ -56,36 +51,18 @@ module _ (n : ℕ) (rowStarts cols : List ℕ) where
   sampledOmega s sign τ w = omegaOf s sign τ (rootsIn w) (valuesIn w)
 
   -- it stays where nothing from 8n on is written
-  pub sampled-omega-kept : (s sign τ : Float) {w w′ : List Float}
+  pub sampled-omega-kept : (s sign τ : Float) (w w′ : List Float)
       → ((j : ℕ) → 8 * n ≤ j → drop j w′ ≡ drop j w)
       → sampledOmega s sign τ w′ ≡ sampledOmega s sign τ w
-  sampled-omega-kept s sign τ kept =
+  sampled-omega-kept s sign τ w w′ kept =
       let r = kept (8 * n) (omega arith) in
       let x = kept (11 * n) (omega arith) in
       λ i. omegaOf s sign τ (take (2 * n) (r i)) (take (2 * m) (x i))
 
   -- the first walk of a term: a = P1 v and b = P2 v as pairs, and what the roots make of them
-  module _ (w w₁ : List Float) (room : 11 * n + 2 * m ≤ length w) (signal : SignalScaled n w) where
-    abbrev v : List Float
-    v = part n n w
-
+  module _ (w w₁ : List Float) (room : 11 * n + 2 * m ≤ length w) where
     abbrev products : List Float
     products = rootedPairs n rowStarts cols (valuesIn w) (rootsIn w) (part (4 * n) (2 * n) w)
-
-    -- the pairs that it writes
-    a : firsts A n products ≡ first (rootsIn w) (valuesIn w) v
-    unfolding weighted
-    a =
-        first-rooted n rowStarts cols (valuesIn w) (rootsIn w) (part (4 * n) (2 * n) w)
-        ∙ ap (λ y. multiplied A n (firsts A n (rootsIn w)) (rowProduct64 n rowStarts cols (firsts A m (valuesIn w)) y))
-        (ap (firsts A n) signal ∙ first-scaled n (rootsIn w) v)
-
-    b : seconds A n products ≡ second (rootsIn w) (valuesIn w) v
-    unfolding weighted
-    b =
-        second-rooted n rowStarts cols (valuesIn w) (rootsIn w) (part (4 * n) (2 * n) w)
-        ∙ ap (λ y. multiplied A n (seconds A n (rootsIn w)) (rowProduct64 n rowStarts cols (seconds A m (valuesIn w)) y))
-        (ap (seconds A n) signal ∙ second-scaled n (rootsIn w) v)
 
     module _ (walked : w₁ ≡ put (6 * n) (exchangedPairs n (rootsIn w) products) (put (2 * n) products w)) where
       abbrev between : List Float
@@ -118,140 +95,70 @@ module _ (n : ℕ) (rowStarts cols : List ℕ) where
       pairs : part (2 * n) (2 * n) w₁ ≡ products
       pairs = wrote-scaled .apart (2 * n) (omega arith) ∙ wrote-products .here
 
-      scaled-b : firsts A n (part (6 * n) (2 * n) w₁) ≡ multiplied A n (firsts A n (rootsIn w)) (second (rootsIn w) (valuesIn w) v)
-      scaled-b =
-          ap (firsts A n) (wrote-scaled .here) ∙ first-exchanged n (rootsIn w) products ∙ ap (multiplied A n (firsts A n (rootsIn w))) b
-
-      scaled-a : seconds A n (part (6 * n) (2 * n) w₁) ≡ multiplied A n (seconds A n (rootsIn w)) (first (rootsIn w) (valuesIn w) v)
-      scaled-a =
-          ap (seconds A n) (wrote-scaled .here) ∙ second-exchanged n (rootsIn w) products ∙ ap (multiplied A n (seconds A n (rootsIn w))) a
-
-      -- the second walk: Ωv is formed of them, over v, its multiple added to the sum, and what the roots make of it
+      -- the second walk: Ωv is formed of them, its multiple added to the sum, and what the roots make of it
       module _ (s sign τ coefficient : Float) where
         abbrev image : List Float
         image =
             formed n rowStarts cols (valuesIn w₁) (rootsIn w₁) (part (2 * n) (2 * n) w₁) (part (6 * n) (2 * n) w₁)
             (A ._*_ minusHalf τ) (A ._*_ (A ._*_ (A ._*_ sign s) τ) τ)
 
-        formula : image ≡ sampledOmega s sign τ w v
-        unfolding weighted
-        formula =
-            (λ i.
-            omega4Sum A n (A ._*_ minusHalf τ) (A ._*_ (A ._*_ (A ._*_ sign s) τ) τ)
-            ((ap (firsts A n) pairs ∙ a) i) ((ap (seconds A n) pairs ∙ b) i)
-            (multiplied A n (seconds A n (roots i)) (rowProduct64 n rowStarts cols (seconds A m (values i)) (scaled-a i)))
-            (multiplied A n (firsts A n (roots i)) (rowProduct64 n rowStarts cols (firsts A m (values i)) (scaled-b i))))
-            ∙ omega4-sum A n minusHalf s sign τ (first (rootsIn w) (valuesIn w)) (second (rootsIn w) (valuesIn w)) v
+        -- of the signal v that lay at 4n, scaled by the roots
+        module _ (v : List Float) (signal : SignalScaled n v w) where
+          a : firsts A n products ≡ first (rootsIn w) (valuesIn w) v
+          unfolding weighted
+          a =
+              first-rooted n rowStarts cols (valuesIn w) (rootsIn w) (part (4 * n) (2 * n) w)
+              ∙ ap (λ y. multiplied A n (firsts A n (rootsIn w)) (rowProduct64 n rowStarts cols (firsts A m (valuesIn w)) y))
+              (ap (firsts A n) signal ∙ first-scaled n (rootsIn w) v)
 
-        length-image : length image ≡ n
-        unfolding omega4Sum
-        length-image = length-tabulate _ n
+          b : seconds A n products ≡ second (rootsIn w) (valuesIn w) v
+          unfolding weighted
+          b =
+              second-rooted n rowStarts cols (valuesIn w) (rootsIn w) (part (4 * n) (2 * n) w)
+              ∙ ap (λ y. multiplied A n (seconds A n (rootsIn w)) (rowProduct64 n rowStarts cols (seconds A m (valuesIn w)) y))
+              (ap (seconds A n) signal ∙ second-scaled n (rootsIn w) v)
+
+          scaled-b : firsts A n (part (6 * n) (2 * n) w₁) ≡ multiplied A n (firsts A n (rootsIn w)) (second (rootsIn w) (valuesIn w) v)
+          scaled-b =
+              ap (firsts A n) (wrote-scaled .here) ∙ first-exchanged n (rootsIn w) products ∙ ap (multiplied A n (firsts A n (rootsIn w))) b
+
+          scaled-a : seconds A n (part (6 * n) (2 * n) w₁) ≡ multiplied A n (seconds A n (rootsIn w)) (first (rootsIn w) (valuesIn w) v)
+          scaled-a =
+              ap (seconds A n) (wrote-scaled .here) ∙ second-exchanged n (rootsIn w) products ∙ ap (multiplied A n (seconds A n (rootsIn w))) a
+
+          formula : image ≡ sampledOmega s sign τ w v
+          unfolding weighted
+          formula =
+              (λ i.
+              omega4Sum A n (A ._*_ minusHalf τ) (A ._*_ (A ._*_ (A ._*_ sign s) τ) τ)
+              ((ap (firsts A n) pairs ∙ a) i) ((ap (seconds A n) pairs ∙ b) i)
+              (multiplied A n (seconds A n (roots i)) (rowProduct64 n rowStarts cols (seconds A m (values i)) (scaled-a i)))
+              (multiplied A n (firsts A n (roots i)) (rowProduct64 n rowStarts cols (firsts A m (values i)) (scaled-b i))))
+              ∙ omega4-sum A n minusHalf s sign τ (first (rootsIn w) (valuesIn w)) (second (rootsIn w) (valuesIn w)) v
 
         abbrev total : List Float
         total = plusScaled A n (part 0 n w₁) coefficient image
 
-        module _ (w′ : List Float) (ended : w′ ≡ put (4 * n) (scaledPairs n (rootsIn w₁) image) (put n image (put 0 total w₁))) where
+        module _ (w′ : List Float) (ended : w′ ≡ put (4 * n) (scaledPairs n (rootsIn w₁) image) (put 0 total w₁)) where
           abbrev summed : List Float
           summed = put 0 total w₁
-
-          abbrev imaged : List Float
-          imaged = put n image summed
 
           wrote-sum : Wrote n 0 total w₁ summed
           wrote-sum = wrote n 0 total w₁ summed (length-plus-scaled A n _ coefficient _) (omega (arith, kept)) refl
 
-          wrote-image : Wrote n n image summed imaged
-          wrote-image = wrote n n image summed imaged length-image (omega (arith, kept, wrote-sum .length-kept)) refl
-
-          wrote-next : Wrote (2 * n) (4 * n) (scaledPairs n (rootsIn w₁) image) imaged w′
+          wrote-next : Wrote (2 * n) (4 * n) (scaledPairs n (rootsIn w₁) image) summed w′
           wrote-next =
-              wrote (2 * n) (4 * n) (scaledPairs n (rootsIn w₁) image) imaged w′ (length-tabulate _ (2 * n))
-              (omega (arith, kept, wrote-sum .length-kept, wrote-image .length-kept)) ended
+              wrote (2 * n) (4 * n) (scaledPairs n (rootsIn w₁) image) summed w′ (length-tabulate _ (2 * n))
+              (omega (arith, kept, wrote-sum .length-kept)) ended
 
-          image-is : part n n w′ ≡ image
-          image-is = ap (part n n) ended ∙ part-of-put-before (4 * n) _ imaged n n (omega arith) ∙ wrote-image .here
+          kept-roots : rootsIn w′ ≡ rootsIn w₁
+          kept-roots = ap (take (2 * n)) (wrote-next .rest (8 * n) (omega arith) ∙ wrote-sum .rest (8 * n) (omega arith))
 
-          pub sampled-term-added : TermAdded A n (8 * n) (sampledOmega s sign τ w) coefficient w w′
+          pub sampled-term-added : ScaledTermAdded n (sampledOmega s sign τ w) coefficient w w′
           sampled-term-added = record {
-            image = image-is ∙ formula;
-            sum = ap (part 0 n) ended ∙ part-of-put-before (4 * n) _ imaged 0 n (omega arith) ∙ wrote-image .apart 0 (omega arith)
-                ∙ wrote-sum .here ∙ (λ i. plusScaled A n (sum i) coefficient (formula i));
-            length-kept = wrote-next .length-kept ∙ wrote-image .length-kept ∙ wrote-sum .length-kept ∙ kept;
-            rest = λ k h. wrote-next .rest k (omega arith) ∙ wrote-image .rest k (omega arith) ∙ wrote-sum .rest k (omega arith) ∙ rest k h;
+            image = λ v signal. wrote-next .here ∙ (λ i. scaledPairs n (sym kept-roots i) (formula v signal i));
+            sum = λ v signal. ap (part 0 n) ended ∙ part-of-put-before (4 * n) _ summed 0 n (omega arith) ∙ wrote-sum .here
+                ∙ (λ i. plusScaled A n (sum i) coefficient (formula v signal i));
+            length-kept = wrote-next .length-kept ∙ wrote-sum .length-kept ∙ kept;
+            rest = λ k h. wrote-next .rest k (omega arith) ∙ wrote-sum .rest k (omega arith) ∙ rest k h;
           }
-
-          pub image-scaled : SignalScaled n w′
-          image-scaled =
-              let kept-roots : rootsIn w′ ≡ rootsIn w₁ = ap (take (2 * n))
-              (wrote-next .rest (8 * n) (omega arith) ∙ wrote-image .rest (8 * n) (omega arith) ∙ wrote-sum .rest (8 * n) (omega arith)) in
-              wrote-next .here ∙ (λ i. scaledPairs n (sym kept-roots i) (sym image-is i))
-
-  -- ---- before the first term
-
-  -- the held signal was copied to n, in w₁, and scaled by the roots, in w₂
-  module _ (w w₁ w₂ : List Float) (room : 11 * n + 2 * m ≤ length w) (copied : w₁ ≡ put n (part 0 n w) w)
-      (scaled : w₂ ≡ put (4 * n) (scaledPairs n (rootsIn w₁) (part n n w₁)) w₁) where
-    wrote-copy : Wrote n n (part 0 n w) w w₁
-    wrote-copy = signal-copied A n w w₁ (omega arith) copied
-
-    wrote-pairs : Wrote (2 * n) (4 * n) (scaledPairs n (rootsIn w₁) (part n n w₁)) w₁ w₂
-    wrote-pairs =
-        wrote (2 * n) (4 * n) (scaledPairs n (rootsIn w₁) (part n n w₁)) w₁ w₂ (length-tabulate _ (2 * n))
-        (omega (arith, wrote-copy .length-kept)) scaled
-
-    copy-kept : part n n w₂ ≡ part n n w₁
-    copy-kept = ap (part n n) scaled ∙ part-of-put-before (4 * n) _ w₁ n n (omega arith)
-
-    held-kept : part 0 n w₂ ≡ part 0 n w₁
-    held-kept = ap (part 0 n) scaled ∙ part-of-put-before (4 * n) _ w₁ 0 n (omega arith)
-
-    pub begun-kept : length w₂ ≡ length w
-    begun-kept = wrote-pairs .length-kept ∙ wrote-copy .length-kept
-
-    pub begun-held : part 0 n w₂ ≡ part 0 n w
-    begun-held = held-kept ∙ wrote-copy .apart 0 (omega arith)
-
-    pub begun-signal : part n n w₂ ≡ part 0 n w₂
-    begun-signal = copy-kept ∙ wrote-copy .here ∙ sym begun-held
-
-    pub begun-scaled : SignalScaled n w₂
-    begun-scaled = wrote-pairs .here ∙ (λ i. scaledPairs n (sym (wrote-pairs .apart (8 * n) (omega arith)) i) (sym copy-kept i))
-
-    pub begun-rest : (j : ℕ) → 8 * n ≤ j → drop j w₂ ≡ drop j w
-    begun-rest j h = wrote-pairs .rest j (omega arith) ∙ wrote-copy .rest j (omega arith)
-
--- ---- one list for both samples
-
-module _ (n : ℕ) (L : Operator A n) where
-  -- Ω with the roots that lie at 6n
-  abbrev pub constantOmega : Float → Float → Float → List Float → Operator A n
-  constantOmega s sign τ w = weightedOmega4 A n minusHalf s sign τ L L (part (6 * n) n w) (part (6 * n) n w)
-
-  pub constant-omega-kept : (s sign τ : Float) {w w′ : List Float}
-      → ((j : ℕ) → 6 * n ≤ j → drop j w′ ≡ drop j w)
-      → constantOmega s sign τ w′ ≡ constantOmega s sign τ w
-  constant-omega-kept s sign τ kept =
-      let r = kept (6 * n) (omega arith) in
-      λ i. weightedOmega4 A n minusHalf s sign τ L L (take n (r i)) (take n (r i))
-
-  -- two weighted products, each of two calls, and Ωv of them make a term
-  pub constant-term-added : (s sign τ coefficient : Float) (w w₁ w₂ w₃ w₄ w₅ w′ : List Float)
-      → 7 * n ≤ length w
-      → w₁ ≡ put (5 * n) (multiplied A n (part (6 * n) n w) (part n n w)) w
-      → w₂ ≡ put (2 * n) (multiplied A n (part (6 * n) n w₁) (L (part (5 * n) n w₁))) w₁
-      → w₃ ≡ put (5 * n) (multiplied A n (part (6 * n) n w₂) (part (2 * n) n w₂)) w₂
-      → w₄ ≡ put n (multiplied A n (part (6 * n) n w₃) (L (part (5 * n) n w₃))) w₃
-      → w₅ ≡ put n (omega4Sum A n (A ._*_ minusHalf τ) (A ._*_ (A ._*_ (A ._*_ sign s) τ) τ)
-      (part (2 * n) n w₄) (part (2 * n) n w₄) (part n n w₄) (part n n w₄)) w₄
-      → w′ ≡ put 0 (plusScaled A n (part 0 n w₅) coefficient (part n n w₅)) w₅
-      → TermAdded A n (6 * n) (constantOmega s sign τ w) coefficient w w′
-  constant-term-added s sign τ coefficient w w₁ w₂ w₃ w₄ w₅ w′ room scaled1 product1 scaled2 product2 formed sum =
-      let r = part (6 * n) n w in
-      let first = weighted-placed A n L r (6 * n) n (2 * n) w w₂ refl (omega arith) (omega arith) (omega arith)
-      (weighted-written A n L (6 * n) n (2 * n) w w₁ w₂ (omega arith) (omega arith) scaled1 product1) in
-      let room2 = room-left A n first (7 * n) room in
-      let second = weighted-placed A n L r (6 * n) (2 * n) n w₂ w₄ (roots-kept A n first (6 * n) (omega arith) refl) (omega (arith, room2))
-      (omega arith) (omega arith)
-      (weighted-written A n L (6 * n) (2 * n) n w₂ w₃ w₄ (omega arith) (omega (arith, room2)) scaled2 product2) in
-      term4-constant-added A n (6 * n) minusHalf s sign τ coefficient (weighted A n r L) w w₂ w₄ w₅ w′ (omega arith) (omega arith)
-      first second formed sum

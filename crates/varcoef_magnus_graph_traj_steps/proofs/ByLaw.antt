@@ -15,8 +15,8 @@ use Rattle.error.specs.declared.Checked.the-variants.{Accepted}
 use Rattle.graph_shape.proofs.First.{accepts-none}
 use Rattle.magnus_graph_outcome.specs.StepOutcome.{adjoint}
 use Rattle.varcoef_magnus_graph_faults.specs.WeightedStepChecks.{weightFault}
-use Rattle.graph_traj_segment.specs.Laws.{lawValues, byLaw, valuesAt, lawList}
-use Rattle.graph_traj_segment.proofs.Laws.{law-values, law-list-has}
+use Rattle.graph_traj_laws.specs.Laws.{lawValues, byLaw, valuesAt, lawList}
+use Rattle.graph_traj_laws.proofs.Laws.{law-values, law-list-has}
 use Rattle.graph_traj_breakpoints.specs.Breakpoints.{breakpoint}
 use Rattle.graph_traj_segment.specs.Times.{c1, c2}
 use Rattle.graph_traj_parts.specs.Trajectory.{Trajectory, AcceptedAdjointTrajectory}

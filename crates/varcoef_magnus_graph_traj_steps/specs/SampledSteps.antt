@@ -5,7 +5,8 @@ use Prim.Native.Nat.{ℕ}
 use lib.ListN.{length}
 use lib.Ieee.{Float}
 use Rattle.error.specs.declared.Checked.{Checked}
-use Rattle.graph_traj_segment.specs.Laws.{fraction, lawValues}
+use Rattle.graph_traj_segment.specs.Times.{fraction}
+use Rattle.graph_traj_laws.specs.Laws.{lawValues}
 use Rattle.graph_traj_segment.specs.Times.{c1, c2, adjointStepStart, sampleTime}
 use Rattle.magnus_graph_traj_steps.specs.RunSteps.{RunStep}
 use Rattle.varcoef_magnus_graph_traj_step.specs.StepTaken.{stepFault, stepImage}

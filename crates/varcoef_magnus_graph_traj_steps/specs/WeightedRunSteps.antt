@@ -5,14 +5,14 @@ use mathlib.Core.List.{List, map}
 use lib.ListN.{getD}
 use lib.Ieee.{Float, binary64}
 use Rattle.arithmetic.specs.Arithmetic.{ieee}
-use Rattle.square_root.specs.SquareRoot.{squareRoot}
+use Rattle.ieee_square_root.specs.SquareRoot.{squareRoot}
 use Rattle.error.specs.Checks.{next}
 use Rattle.error.specs.declared.Checked.{Checked}
 use Rattle.magnus.specs.Operators.{weighted}
 use Rattle.magnus_graph_step.specs.Omega4.{expOmega4}
 use Rattle.varcoef_magnus_graph_faults.specs.WeightedStepChecks.{weightFault}
 use Rattle.varcoef_magnus_graph_outcome.specs.WeightedOmega4.{sqrt3Over12}
-use Rattle.graph_traj_segment.specs.Laws.{valuesAt}
+use Rattle.graph_traj_laws.specs.Laws.{valuesAt}
 use Rattle.graph_traj_segment.specs.Times.{c1, c2}
 use Rattle.graph_traj_parts.specs.Trajectory.{Trajectory}
 use Rattle.magnus_graph_traj_steps.specs.RunSteps.{RunStep, Course, fractionAt, product, runStepFault}

@@ -1,5 +1,5 @@
--- `graph_shape::check_row_starts` meets its contract. The loop's invariant: no start before row i exceeds the next.
--- Assumes nothing.
+-- `graph_shape::check_row_starts` meets its contract. Where the quick walk says that the starts rise, there is no fault. The loop's
+-- invariant: no start before row i exceeds the next. Assumes nothing.
 use Prim.Native.Nat.{_<_, _+_, _-_}
 use native.Mathlib.Omega.{arith}
 use lib.ListN.{length}
@@ -16,34 +16,41 @@ Inv-loop n row-ptr i₀ i = Passed (fallsAt row-ptr) n i
 abbrev μ-loop : tie.MeasureT-loop
 μ-loop n row-ptr i₀ i = n - i
 
-loop-holds : tie.Need-loop-holds Inv-loop μ-loop
-loop-holds c = passed-none
-
-mul-if1 : tie.Need-mul-if1 Inv-loop μ-loop
-mul-if1 c =
-    let h : c .before .loop .i < length (c .before .before .args .row-ptr .now) = omega arith in
-    search needs
-
-shared-slice-read-if1 : tie.Need-shared-slice-read-if1 Inv-loop μ-loop
-shared-slice-read-if1 c = omega arith
-
-add-if1 : tie.Need-add-if1 Inv-loop μ-loop
-add-if1 c = omega arith
-
-mul-if1-2 : tie.Need-mul-if1-2 Inv-loop μ-loop
-mul-if1-2 c =
-    let h : c .before .before .loop .i + 1 < length (c .before .before .before .args .row-ptr .now) = omega arith in
-    search needs
-
-shared-slice-read-if1-2 : tie.Need-shared-slice-read-if1-2 Inv-loop μ-loop
-shared-slice-read-if1-2 c = omega arith
+row-starts-rise-requires : tie.Need-row-starts-rise-requires Inv-loop μ-loop
+row-starts-rise-requires c κs = c .before .pre
 
 returns : tie.Need-returns Inv-loop μ-loop
 unfolding rowStartsFault
-returns c =
+returns c = accepts-none _ _ _ (c .before .row-starts-rise .ensures (c .if1 .taken))
+
+loop-holds : tie.Need-loop-holds Inv-loop μ-loop
+loop-holds c = passed-none
+
+mul-if2 : tie.Need-mul-if2 Inv-loop μ-loop
+mul-if2 c =
+    let h : c .before .loop .i < length (c .before .before .before .before .before .args .row-ptr .now) = omega arith in
+    search needs
+
+shared-slice-read-if2 : tie.Need-shared-slice-read-if2 Inv-loop μ-loop
+shared-slice-read-if2 c = omega arith
+
+add-if2 : tie.Need-add-if2 Inv-loop μ-loop
+add-if2 c = omega arith
+
+mul-if2-2 : tie.Need-mul-if2-2 Inv-loop μ-loop
+mul-if2-2 c =
+    let h : c .before .before .loop .i + 1 < length (c .before .before .before .before .before .before .args .row-ptr .now) = omega arith in
+    search needs
+
+shared-slice-read-if2-2 : tie.Need-shared-slice-read-if2-2 Inv-loop μ-loop
+shared-slice-read-if2-2 c = omega arith
+
+returns-2 : tie.Need-returns-2 Inv-loop μ-loop
+unfolding rowStartsFault
+returns-2 c =
     let l = c .before .before .before .before .loop in
     refuses-first _ _ _ _ (c .before .before .before .loop-test .taken)
-    (passed-found (l .inv) (lt-ltb _ _ (c .if1 .taken)))
+    (passed-found (l .inv) (lt-ltb _ _ (c .if2 .taken)))
 
 add-i : tie.Need-add-i Inv-loop μ-loop
 add-i c = omega arith
@@ -54,11 +61,11 @@ loop-less c = omega arith
 loop-again : tie.Need-loop-again Inv-loop μ-loop
 loop-again c =
     let l = c .before .before .before .before .loop in
-    passed-more (l .inv) (c .before .before .before .loop-test .taken) (le-ltb _ _ (c .if1 .left))
+    passed-more (l .inv) (c .before .before .before .loop-test .taken) (le-ltb _ _ (c .if2 .left))
 
-returns-2 : tie.Need-returns-2 Inv-loop μ-loop
+returns-3 : tie.Need-returns-3 Inv-loop μ-loop
 unfolding rowStartsFault
-returns-2 c =
+returns-3 c =
     let l = c .before .loop in
     accepts-none _ _ _ (λ j m. l .inv .none j (omega arith))
 
@@ -68,14 +75,16 @@ check-row-starts-spec =
     (tie.spec
     Inv-loop
     μ-loop
-    loop-holds
-    mul-if1
-    shared-slice-read-if1
-    add-if1
-    mul-if1-2
-    shared-slice-read-if1-2
+    row-starts-rise-requires
     returns
+    loop-holds
+    mul-if2
+    shared-slice-read-if2
+    add-if2
+    mul-if2-2
+    shared-slice-read-if2-2
+    returns-2
     add-i
     loop-less
     loop-again
-    returns-2)
+    returns-3)

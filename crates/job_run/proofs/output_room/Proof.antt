@@ -1,5 +1,5 @@
 -- `output_room` meets its contract: an array of zeros is the vector of them. Assumes nothing.
-use Rattle.job_step.proofs.Rooms.{repeated-zeros}
+use Rattle.job_run.proofs.Rooms.{repeated-zeros}
 use Rattle.job_run.proofs.output_room.Statement.{statement}
 use Rattle.job_run.proofs.output_room.Tie as tie
 

@@ -3,7 +3,7 @@ use mathlib.Core.Path.{ap, _∙_}
 use Prim.Native.Nat.{_≤_}
 use native.Mathlib.Omega.{arith}
 use Rattle.scratch.specs.Parts.{zeros}
-use Rattle.job_step.proofs.Rooms.{zeros-front-length, front-zeros}
+use Rattle.job_run.proofs.Rooms.{zeros-front-length, front-zeros}
 use Rattle.job_run.proofs.Texts.{step-written, small}
 use borrow.Author.Needs.{needs}
 use Rattle.job_run.proofs.run_step.Statement.{statement}

@@ -8,7 +8,8 @@ use borrow.Author.Needs.{needs}
 use Rattle.error.specs.Refusals.{Carried, count, numberOf, valuesOf}
 use Rattle.error.specs.declared.Refusal.{Refusal}
 use Rattle.job_text_numbers.specs.Placed.{Placed, PlacedSome, Begins}
-use Rattle.job_text.specs.Text.{newline, refusedWord, Spaced, RefusedText, refused}
+use Rattle.job_text_row.specs.Spaced.{Spaced}
+use Rattle.job_text.specs.Text.{newline, refusedWord, RefusedText, refused}
 use Rattle.job_text_numbers.proofs.Placing.{placed-append, some, begins}
 use Rattle.job_text.proofs.write_refused.Statement.{statement}
 use Rattle.job_text.proofs.write_refused.Tie as tie

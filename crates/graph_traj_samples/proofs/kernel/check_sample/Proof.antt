@@ -10,7 +10,7 @@ use Rattle.scratch.specs.Parts.{part}
 use Rattle.error.specs.declared.Refusal.the-variants.{SampledValue}
 use Rattle.graph_checks.specs.PatternChecks.{notFiniteAt}
 use Rattle.graph_checks.proofs.First.{Passed, passed-none}
-use Rattle.graph_traj_segment.specs.Laws.{lawValues}
+use Rattle.graph_traj_laws.specs.Laws.{lawValues}
 use Rattle.graph_traj_samples.specs.Sampled.{sampledFault}
 use Rattle.graph_traj_samples.proofs.Sampled.{refused-at, passed-at, none-left, value-at, length-values}
 use Rattle.graph_traj_samples.proofs.kernel.check_sample.Statement.{statement}

@@ -14,39 +14,17 @@ use Rattle.graph_traj_samples.proofs.kernel.sample.Tie as tie
 sample-pairs-requires : tie.Need-sample-pairs-requires
 sample-pairs-requires c κs = search needs
 
-mul-end : tie.Need-mul-end
-mul-end c = search needs
-
-add-end : tie.Need-add-end
-add-end c = search needs
-
-mul-all-finite : tie.Need-mul-all-finite
-mul-all-finite c = search needs
-
-sub-all-finite : tie.Need-sub-all-finite
-sub-all-finite c = search needs
-
-part-all-finite-start : tie.Need-part-all-finite-start
-part-all-finite-start c = search needs
-
-part-all-finite-end : tie.Need-part-all-finite-end
-part-all-finite-end c = search needs
-
-all-finite-requires : tie.Need-all-finite-requires
-all-finite-requires c κs = search needs
-
 same-length : tie.Need-same-length
 same-length c = search needs
 
 returns : tie.Need-returns
 unfolding sampledFault
 returns c =
-    let start = c .before .before .before .before .before .before .before .before .before .before .before in
-    let args = start .args in
-    let written = c .before .before .before .before .before .before .sample-pairs .ensures in (
-      both-pass (λ x. not (finite x)) SampledValue finite (λ x. ap not) (args .m) (args .fraction1) (args .fraction2) _ _ (args .at)
-          (args .work .now) _ (start .pre .1) written (c .before .all-finite .ensures) (c .if1 .taken),
-      written,
+    let sampled = c .before .before .before in
+    let args = sampled .before .before .before .before .before .args in (
+      both-pass (λ x. not (finite x)) SampledValue finite (λ x. ap not) (args .m) (args .fraction1) (args .fraction2) _ _
+          (sampled .sample-pairs .ensures .0) (c .if1 .taken),
+      sampled .sample-pairs .ensures .1,
     )
 
 check-sample-requires : tie.Need-check-sample-requires
@@ -63,8 +41,8 @@ same-length-2 c = search needs
 
 returns-2 : tie.Need-returns-2
 returns-2 c =
-    let written = c .before .before .before .before .before .before .before .before .before .sample-pairs .ensures in
-    (refused-here _ _ _ _ (c .before .before .check-sample .ensures) (c .enum-told2 .given .1), written)
+    let first = c .before .before in
+    (refused-here _ _ _ _ (first .check-sample .ensures) (c .enum-told2 .given .1), first .before .before .before .before .sample-pairs .ensures .1)
 
 check-sample-requires-2 : tie.Need-check-sample-requires-2
 check-sample-requires-2 c κs = search needs
@@ -74,10 +52,10 @@ same-length-3 c = search needs
 
 returns-3 : tie.Need-returns-3
 returns-3 c =
-    let written = c .before .before .before .before .before .before .before .before .before .before .sample-pairs .ensures in
-    let first = c .before in (
-      accepted-then _ _ _ _ (c .before .before .before .check-sample .ensures) (first .enum-told .given .1) (c .check-sample2 .ensures),
-      written,
+    let passed = c .before in
+    let first = passed .before .before in (
+      accepted-then _ _ _ _ (first .check-sample .ensures) (passed .enum-told .given .1) (c .check-sample2 .ensures),
+      first .before .before .before .before .sample-pairs .ensures .1,
     )
 
 pub sample-spec : {M : Type 1} → statement M
@@ -85,13 +63,6 @@ sample-spec =
     tie.close
     (tie.spec
     sample-pairs-requires
-    mul-end
-    add-end
-    mul-all-finite
-    sub-all-finite
-    part-all-finite-start
-    part-all-finite-end
-    all-finite-requires
     same-length
     returns
     check-sample-requires

@@ -8,7 +8,7 @@ use lib.ListN.{length, take, getD}
 use lib.Seq.{take-suc, take-length}
 use lib.Ieee.{Float, nan}
 use Rattle.job_text_numbers.specs.Placed.{Placed, PlacedSome}
-use Rattle.job_text_numbers.specs.Numbers.{RealText}
+use Rattle.job_text_digits.specs.Numbers.{RealText}
 use Rattle.job_text.specs.Text.{newline, Lines}
 use Rattle.job_text.specs.Text.Lines.{none}
 use Rattle.job_text_numbers.proofs.Placing.{placed-none, length-placed, placed-append, some}

@@ -8,10 +8,10 @@ use lib.ListN.{length}
 use lib.Ieee.{Float}
 use borrow.Author.Needs.{needs}
 use Rattle.job_text_numbers.specs.Placed.{Placed, PlacedSome, Begins}
-use Rattle.job_text_numbers.specs.Numbers.{decimal}
+use Rattle.job_text_digits.specs.Numbers.{decimal}
 use Rattle.job_text.specs.Text.{newline, doneWord, Lines, DoneText, done}
 use Rattle.job_text_numbers.proofs.Placing.{placed-append, length-placed, some, begins}
-use Rattle.job_text_numbers.proofs.Digits.{two}
+use Rattle.job_text_digits.proofs.Digits.{two}
 use Rattle.job_text.proofs.kernel.write_done.Statement.{statement}
 use Rattle.job_text.proofs.kernel.write_done.Tie as tie
 

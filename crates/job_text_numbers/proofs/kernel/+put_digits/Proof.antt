@@ -7,15 +7,15 @@ use native.Mathlib.Nat.{mod-lt, lt-of-lt-of-le}
 use native.Mathlib.Omega.{arith}
 use lib.ListN.{length}
 use Rattle.job_text_numbers.specs.Placed.{Placed}
-use Rattle.job_text_numbers.specs.Numbers.{digit, digits}
+use Rattle.job_text_digits.specs.Numbers.{digit, digits}
 use Rattle.job_text_numbers.proofs.Placing.{placed-none, placed-append, placed-as, length-placed}
-use Rattle.job_text_numbers.proofs.Digits.{digits-none, digits-next, length-digits}
+use Rattle.job_text_digits.proofs.Digits.{digits-none, digits-next, length-digits}
 use borrow.Fn.Kinds.{In}
 use borrow.Fn.PlainCycle.{Measures, is, falls, and}
 use Rattle.job_text_numbers.proofs.kernel.put_digits.Reads as put-digits
 use Rattle.job_text_numbers.proofs.kernel.put_digits.Kinds as put-digits-kinds
 use Rattle.job_text_numbers.proofs.kernel.+put_digits.Lts-put_digits as put-digits-lts
-use Rattle.job_text_numbers.proofs.kernel.digit.Reads as digit-reads
+use Rattle.job_text_digits.proofs.kernel.digit.Reads as digit-reads
 use Rattle.job_text_numbers.proofs.kernel.put_byte.Reads as put-byte-reads
 use Rattle.job_text_numbers.proofs.kernel.+put_digits.{statement}
 use Rattle.job_text_numbers.proofs.kernel.+put_digits.Tie.{close}

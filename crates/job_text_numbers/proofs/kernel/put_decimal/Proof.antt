@@ -4,9 +4,9 @@ use mathlib.Core.List.{List}
 use Prim.Native.Nat.{ℕ, _+_, _^_, _≤_, _<_}
 use native.Mathlib.Omega.{arith}
 use Rattle.job_text_numbers.specs.Placed.{Placed}
-use Rattle.job_text_numbers.specs.Numbers.{digits, places, decimal}
+use Rattle.job_text_digits.specs.Numbers.{digits, places, decimal}
 use Rattle.job_text_numbers.proofs.Placing.{placed-as}
-use Rattle.job_text_numbers.proofs.Digits.{twenty, length-digits}
+use Rattle.job_text_digits.proofs.Digits.{twenty, length-digits}
 use borrow.Author.Needs.{needs}
 use Rattle.job_text_numbers.proofs.kernel.put_decimal.Statement.{statement}
 use Rattle.job_text_numbers.proofs.kernel.put_decimal.Tie as tie

@@ -4,9 +4,9 @@ use mathlib.Core.List.{List}
 use Prim.Native.Nat.{ℕ, _+_, _^_, _<_}
 use lib.Ieee.{Float, binary64, ofBits}
 use Rattle.job_text_numbers.specs.Placed.{Placed, PlacedSome}
-use Rattle.job_text_numbers.specs.Numbers.{digits, hexadecimal16, RealText}
+use Rattle.job_text_digits.specs.Numbers.{digits, hexadecimal16, RealText}
 use Rattle.job_text_numbers.proofs.Placing.{some}
-use Rattle.job_text_numbers.proofs.Digits.{length-digits}
+use Rattle.job_text_digits.proofs.Digits.{length-digits}
 use borrow.Author.Needs.{needs}
 use Rattle.job_text_numbers.proofs.kernel.put_real.Statement.{statement}
 use Rattle.job_text_numbers.proofs.kernel.put_real.Tie as tie

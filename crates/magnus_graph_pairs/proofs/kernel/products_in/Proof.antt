@@ -1,34 +1,25 @@
--- `products_in` meets its contract: a turn writes the next pair, and the source, which lies before the target, is as it was. Assumes nothing.
-use mathlib.Core.Path.{refl}
-use mathlib.Core.Logic.{inl, inr}
-use Prim.Native.Nat.{_-_, _*_}
+-- `products_in` meets its contract: a turn writes the next pair, and the source, which lies before the target, is as it was. Assumes
+-- nothing.
+use Prim.Native.Nat.{_-_}
 use native.Mathlib.Omega.{arith}
-use lib.ListN.{length, length-set}
-use lib.Ieee.{binary64}
-use Rattle.arithmetic.specs.Arithmetic.{ieee}
-use Rattle.scratch.specs.Parts.{part}
-use Rattle.scratch.proofs.Writing.{Written, written-none, written-all, outside-kept}
-use Rattle.graph_rows.specs.RowProduct.{rowSum64}
-use Rattle.graph_scratch.proofs.WorkSlice.{lent-part, length-lent-part}
-use Rattle.graph_pairs.specs.Pairs.{alternate, firsts, seconds}
-use Rattle.graph_pairs.proofs.Pairs.{pair-written}
+use lib.ListN.{length-set}
+use Rattle.graph_scratch.proofs.WorkSlice.{length-lent-part}
+use Rattle.graph_pairs.proofs.Turns.{Products, products-none, products-next, products-all}
 use Rattle.magnus_graph_pairs.proofs.kernel.products_in.Statement.{statement}
 use Rattle.magnus_graph_pairs.proofs.kernel.products_in.Tie as tie
 
 abbrev Inv-loop : tie.InvT-loop
 Inv-loop row-ptr col-idx vals1 vals2 work₀ n source target source-end i₀ work i =
-    let v = part source n work₀ in
-    Written target (alternate (rowSum64 row-ptr col-idx vals2 v) (rowSum64 row-ptr col-idx vals1 v)) (2 * n) work₀ (2 * i) work
+    Products n row-ptr col-idx vals1 vals2 source target work₀ i work
 
 abbrev μ-loop : tie.MeasureT-loop
-μ-loop row-ptr col-idx vals1 vals2 work₀ n source target source-end i₀ work i =
-    n - i
+μ-loop row-ptr col-idx vals1 vals2 work₀ n source target source-end i₀ work i = n - i
 
 add-source-end : tie.Need-add-source-end Inv-loop μ-loop
 add-source-end c = omega arith
 
 loop-holds : tie.Need-loop-holds Inv-loop μ-loop
-loop-holds c = written-none _ _ _ _
+loop-holds c = products-none _ _ _ _ _ _ _ _
 
 mul-row-sums-of-one : tie.Need-mul-row-sums-of-one Inv-loop μ-loop
 mul-row-sums-of-one c = omega arith
@@ -49,29 +40,23 @@ row-sums-of-one-requires c κs =
     let lent = length-lent-part (start .args .source) (start .args .n) (head .loop .work) (omega arith) in
     rw lent (start .pre .0, (start .pre .1 .0, omega arith))
 
+mul-t : tie.Need-mul-t Inv-loop μ-loop
+mul-t c = omega arith
+
+add-t : tie.Need-add-t Inv-loop μ-loop
+add-t c = omega arith
+
 mul-work : tie.Need-mul-work Inv-loop μ-loop
 mul-work c = omega arith
+
+slice-write-work : tie.Need-slice-write-work Inv-loop μ-loop
+slice-write-work c = omega arith
 
 add-work : tie.Need-add-work Inv-loop μ-loop
 add-work c = omega arith
 
 mul-work-2 : tie.Need-mul-work-2 Inv-loop μ-loop
 mul-work-2 c = omega arith
-
-slice-write-work : tie.Need-slice-write-work Inv-loop μ-loop
-slice-write-work c = omega arith
-
-mul-work-3 : tie.Need-mul-work-3 Inv-loop μ-loop
-mul-work-3 c = omega arith
-
-add-work-2 : tie.Need-add-work-2 Inv-loop μ-loop
-add-work-2 c = omega arith
-
-add-work-3 : tie.Need-add-work-3 Inv-loop μ-loop
-add-work-3 c = omega arith
-
-mul-work-4 : tie.Need-mul-work-4 Inv-loop μ-loop
-mul-work-4 c = omega arith
 
 slice-write-work-2 : tie.Need-slice-write-work-2 Inv-loop μ-loop
 slice-write-work-2 c = simp length-set (omega arith)
@@ -87,18 +72,16 @@ loop-again c =
     let head = c .before .before .before .before in
     let start = head .before .before .before .before .before .before in
     let args = start .args in
-    let v = part (args .source) (args .n) (args .work .now) in
-    let row = rowSum64 (args .row-ptr .now) (args .col-idx .now) in
-    let source = outside-kept (head .loop .inv) (args .source) (args .n) (inl (start .pre .1 .1 .0)) in
-    let sums = simp (lent-part, source) at (c .row-sums-of-one .ensures) in
-    pair-written (row (args .vals2 .now) v) (row (args .vals1 .now) v) (head .loop .inv) (c .before .before .before .loop-test .taken)
-    _ _ _ _ (omega arith) (omega arith) (sums .1) (sums .0)
+    let sums = c .row-sums-of-one .ensures in
+    products-next (args .n) (args .row-ptr .now) (args .col-idx .now) (args .vals1 .now) (args .vals2 .now) (args .source) (args .target)
+    (args .work .now) (head .loop .inv) (start .pre .1 .1 .0) (c .before .before .before .loop-test .taken) (sums .0) (sums .1)
 
 same-length : tie.Need-same-length Inv-loop μ-loop
-same-length c = c .before .loop .inv .length-kept
+same-length c = c .before .loop .inv .written .length-kept
 
 returns : tie.Need-returns Inv-loop μ-loop
-returns c = written-all (c .before .loop .inv) (omega arith) refl
+returns c =
+    products-all _ _ _ _ _ _ _ _ (c .before .loop .inv) (c .loop-test .left)
 
 pub products-in-spec : {M : Type 1} → statement M
 products-in-spec =
@@ -113,14 +96,12 @@ products-in-spec =
     part-row-sums-of-one-start
     part-row-sums-of-one-end
     row-sums-of-one-requires
+    mul-t
+    add-t
     mul-work
+    slice-write-work
     add-work
     mul-work-2
-    slice-write-work
-    mul-work-3
-    add-work-2
-    add-work-3
-    mul-work-4
     slice-write-work-2
     add-i
     loop-less

@@ -5,7 +5,7 @@ use Prim.Native.Nat.{_≤_}
 use native.Mathlib.Omega.{arith}
 use lib.ListN.{length}
 use borrow.Author.Needs.{needs}
-use Rattle.graph_traj_segment.proofs.Laws.{length-law}
+use Rattle.graph_traj_laws.proofs.Laws.{length-law}
 use Rattle.magnus_graph_traj_step.proofs.RunStep.{constant-taken, taken-by-law}
 use Rattle.magnus_graph_traj_step.proofs.kernel.run_step.Statement.{statement}
 use Rattle.magnus_graph_traj_step.proofs.kernel.run_step.Tie as tie

@@ -3,7 +3,7 @@ use Prim.Native.Nat.{ℕ, _-_, _/_, _%_, _≤_}
 use native.Mathlib.Omega.{arith}
 use lib.Ieee.{binary64}
 use borrow.Author.Needs.{needs}
-use Rattle.square_root.proofs.FromBits.{no-nan}
+use Rattle.ieee_square_root.proofs.FromBits.{no-nan}
 use Rattle.square_root.proofs.kernel.inverse_root.Statement.{statement}
 use Rattle.square_root.proofs.kernel.inverse_root.Tie as tie
 

@@ -9,8 +9,8 @@ use lib.Ieee.{Float, nan, binary64, ofBits, toBits, div, fits, isNan}
 use lib.Ieee.Bits.{ofBits-toBits, toBits-lt}
 use borrow.Author.Needs.{needs}
 use Rattle.rounding.proofs.Nan.{equal-to-itself}
-use Rattle.square_root.specs.SquareRoot.{squareRoot}
-use Rattle.square_root.proofs.Special.{nan-root, negative-bits, infinite-bits, zero-root, minus-zero-root}
+use Rattle.ieee_square_root.specs.SquareRoot.{squareRoot}
+use Rattle.ieee_square_root.proofs.Special.{nan-root, negative-bits, infinite-bits, zero-root, minus-zero-root}
 use Rattle.square_root.proofs.kernel.root_near.Statement.{statement}
 use Rattle.square_root.proofs.kernel.root_near.Tie as tie
 

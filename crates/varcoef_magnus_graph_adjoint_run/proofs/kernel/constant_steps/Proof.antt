@@ -10,7 +10,7 @@ use Rattle.varcoef_magnus_graph_adjoint_run.proofs.kernel.constant_step
 use Rattle.varcoef_magnus_graph_adjoint_run.proofs.kernel.constant_steps.Tie as tie
 use Rattle.varcoef_magnus_graph_checks.proofs.check_sample_weights.Reads as check-sample-weights-reads
 use Rattle.varcoef_magnus_graph_products.proofs.kernel.load_roots.Reads as load-roots-reads
-use Rattle.varcoef_magnus_graph_traj_step.proofs.kernel.constant_taylor4.Reads as constant-taylor4-reads
+use Rattle.varcoef_magnus_graph_traj_constant.proofs.kernel.constant_taylor4.Reads as constant-taylor4-reads
 
 abbrev Inv-loop : tie.InvT-loop
 Inv-loop row-ptr col-idx vals a n tau steps work₀ counter₀ work counter =

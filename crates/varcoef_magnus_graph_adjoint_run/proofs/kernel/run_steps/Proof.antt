@@ -4,7 +4,7 @@ use mathlib.Core.Path.{_≡_, ap, _∙_}
 use Prim.Native.Nat.{ℕ, _+_, _*_, _≤_}
 use native.Mathlib.Omega.{arith}
 use lib.ListN.{length}
-use Rattle.graph_traj_segment.proofs.Laws.{length-law}
+use Rattle.graph_traj_laws.proofs.Laws.{length-law}
 use Rattle.graph_traj_parts.specs.Trajectory.{Trajectory, trajectory}
 use Rattle.varcoef_magnus_graph_traj_steps.proofs.ByLaw.{taken-2, taken-listed, starts-size, ends-size, law-there, law-known}
 use Rattle.varcoef_magnus_graph_traj_steps.proofs.ByLaw.{breakpoints-there}

@@ -1,7 +1,7 @@
 -- `sampled_step_at` meets its contract: the samples lie where the segment's value says. Assumes nothing.
 use mathlib.Core.Path.{ap, _∙_}
 use lib.Ieee.{Float}
-use Rattle.graph_traj_segment.specs.Laws.{fraction}
+use Rattle.graph_traj_segment.specs.Times.{fraction}
 use Rattle.graph_traj_segment.specs.Times.{c1, c2, sampleTime}
 use Rattle.varcoef_magnus_graph_adjoint_run.proofs.Walk.{sampled-at}
 use borrow.Author.Needs.{needs}

@@ -1,36 +1,16 @@
 -- `rooted_products_in` meets its contract: a turn writes the next pair of each of two vectors, from the sums of its row and the roots of its
 -- place; these, the scaled signals and the values lie outside of both and are as they were. Assumes nothing.
-use mathlib.Core.Path.{refl, sym, ap, _∙_}
-use mathlib.Core.Logic.{inl, inr}
-use Prim.Native.Nat.{ℕ, _+_, _-_, _*_}
+use Prim.Native.Nat.{_-_, _*_}
 use native.Mathlib.Omega.{arith}
 use lib.ListN.{length, length-set}
-use lib.Ieee.{Float, binary64, mul, nan}
-use Rattle.arithmetic.specs.Arithmetic.{ieee, at}
-use Rattle.scratch.specs.Parts.{part, put}
-use Rattle.scratch.proofs.Parts.{getD-kept}
-use Rattle.scratch.proofs.Writing.{Written, written-none, written-all, outside-kept, WrittenOver, over-none, kept-below}
-use Rattle.graph_rows.specs.RowProduct.{rowSum64}
-use Rattle.graph_scratch.proofs.WorkSlice.{lent-part, length-lent-part}
-use Rattle.graph_pairs.specs.Pairs.{alternate, firsts, seconds}
-use Rattle.graph_pairs.proofs.Pairs.{pair-written, first-of-pair, second-of-pair}
-use Rattle.varcoef_magnus_graph_pairs.specs.WeightedPairs.{rootedPairs}
-use Rattle.varcoef_magnus_graph_pairs.proofs.Walks.{pair-over, pair-outside}
+use Rattle.graph_scratch.proofs.WorkSlice.{length-lent-part}
+use Rattle.varcoef_magnus_graph_pairs.proofs.Turns.{Walked, length-walked, walked-none, walked-next, walked-all}
 use Rattle.varcoef_magnus_graph_pairs.proofs.kernel.rooted_products_in.Statement.{statement}
 use Rattle.varcoef_magnus_graph_pairs.proofs.kernel.rooted_products_in.Tie as tie
 
 abbrev Inv-loop : tie.InvT-loop
 Inv-loop row-ptr col-idx work₀ n values roots source target scaled values-end source-end i₀ work i =
-    let A = ieee binary64 in
-    let m = length col-idx in
-    let x = part values (2 * m) work₀ in
-    let r = part roots (2 * n) work₀ in
-    let s = part source (2 * n) work₀ in
-    let products = rootedPairs n row-ptr col-idx x r s in
-    WrittenOver scaled (alternate (λ j. mul binary64 (at A r (2 * j)) (at A products (2 * j + 1))) (λ j. mul binary64 (at A r (2 * j + 1)) (at A products (2 * j)))) (2 * n)
-    (Written target
-    (alternate (λ j. mul binary64 (at A r (2 * j)) (rowSum64 row-ptr col-idx (firsts A m x) (firsts A n s) j))
-    (λ j. mul binary64 (at A r (2 * j + 1)) (rowSum64 row-ptr col-idx (seconds A m x) (seconds A n s) j))) (2 * n) work₀ (2 * i)) (2 * i) work
+    Walked n row-ptr col-idx values roots source target scaled work₀ i work
 
 abbrev μ-loop : tie.MeasureT-loop
 μ-loop row-ptr col-idx work₀ n values roots source target scaled values-end source-end i₀ work i =
@@ -49,7 +29,7 @@ add-source-end : tie.Need-add-source-end Inv-loop μ-loop
 add-source-end c = omega arith
 
 loop-holds : tie.Need-loop-holds Inv-loop μ-loop
-loop-holds c = over-none _ _ _ _ (written-none _ _ _ _)
+loop-holds c = walked-none _ _ _ _ _ _ _ _ _
 
 mul-row-sums-of-two : tie.Need-mul-row-sums-of-two Inv-loop μ-loop
 mul-row-sums-of-two c = omega arith
@@ -155,46 +135,18 @@ loop-less c = omega arith
 
 loop-again : tie.Need-loop-again Inv-loop μ-loop
 loop-again c =
-    let start = c .before .before .before .before .before .before .before .before .before .before .before .before .before in
+    let head = c .before .before .before .before .before .before .before .before .before in
+    let start = head .before .before .before .before in
     let args = start .args in
-    let A = ieee binary64 in
-    let n = args .n in
-    let m = length (args .col-idx .now) in
-    let i = c .before .before .before .before .before .before .before .before .before .loop .i in
-    let w = args .work .now in
-    let x = part (args .values) (2 * m) w in
-    let r = part (args .roots) (2 * n) w in
-    let s = part (args .source) (2 * n) w in
-    let row = rowSum64 (args .row-ptr .now) (args .col-idx .now) in
-    let products = rootedPairs n (args .row-ptr .now) (args .col-idx .now) x r s in
-    let a : ℕ → Float = λ j. mul binary64 (at A r (2 * j)) (row (firsts A m x) (firsts A n s) j) in
-    let b : ℕ → Float = λ j. mul binary64 (at A r (2 * j + 1)) (row (seconds A m x) (seconds A n s) j) in
-    let over = c .before .before .before .before .before .before .before .before .before .loop .inv in
-    let turn = c .before .before .before .before .before .before .before .before .loop-test .taken in
-    let source = kept-below over (args .source) (2 * n) w (inl (omega arith))
-    (λ u told. outside-kept told (args .source) (2 * n) (inr (omega arith))) in
-    let values = kept-below over (args .values) (2 * m) w (inr (omega arith))
-    (λ u told. outside-kept told (args .values) (2 * m) (inr (omega arith))) in
-    let roots = kept-below over (args .roots) (2 * n) w (inr (omega arith))
-    (λ u told. outside-kept told (args .roots) (2 * n) (inr (omega arith))) in
-    let sums = simp (lent-part, source, values) at (c .before .before .before .before .row-sums-of-two .ensures) in
-    let r1 = getD-kept (args .roots) (2 * n) _ _ roots (2 * i) (omega arith) _ refl nan in
-    let r2 = getD-kept (args .roots) (2 * n) _ _ roots (2 * i + 1) (omega arith) (args .roots + 2 * i + 1) (omega arith) nan in
-    let first = (λ k. mul binary64 (r1 k) (sums .0 k)) ∙ sym (first-of-pair A n a b i turn) in
-    let second = (λ k. mul binary64 (r2 k) (sums .1 k)) ∙ sym (second-of-pair A n a b i turn) in
-    pair-over (λ j. mul binary64 (at A r (2 * j)) (at A products (2 * j + 1))) (λ j. mul binary64 (at A r (2 * j + 1)) (at A products (2 * j)))
-    (pair-outside over _ _ _ _ (inl (omega arith)) (inl (omega arith))
-    (λ u told. pair-written a b told turn _ _ _ _ (omega arith) (omega arith) (λ k. mul binary64 (r1 k) (sums .0 k))
-    (λ k. mul binary64 (r2 k) (sums .1 k))))
-    turn _ _ _ _ (omega arith) (omega arith) (λ k. mul binary64 (r1 k) (second k)) (λ k. mul binary64 (r2 k) (first k))
+    walked-next (args .n) (args .row-ptr .now) (args .col-idx .now) (args .values) (args .roots) (args .source) (args .target) (args .scaled)
+    (args .work .now) (start .pre .1 .0) (head .loop .inv) (c .before .before .before .before .before .before .before .before .loop-test .taken)
+    (c .before .before .before .before .row-sums-of-two .ensures)
 
 same-length : tie.Need-same-length Inv-loop μ-loop
-same-length c = c .before .loop .inv .here .length-kept ∙ c .before .loop .inv .rest .length-kept
+same-length c = length-walked _ _ _ _ _ _ _ _ _ (c .before .loop .inv)
 
 returns : tie.Need-returns Inv-loop μ-loop
-returns c =
-    let over = c .before .loop .inv in
-    written-all (over .here) (omega arith) refl ∙ ap (put _ _) (written-all (over .rest) (omega arith) refl)
+returns c = walked-all _ _ _ _ _ _ _ _ _ (c .before .loop .inv) (c .loop-test .left)
 
 pub rooted-products-in-spec : {M : Type 1} → statement M
 rooted-products-in-spec =

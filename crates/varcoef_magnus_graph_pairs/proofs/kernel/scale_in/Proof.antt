@@ -1,34 +1,21 @@
 -- `scale_in` meets its contract: a turn writes the next pair, from the signal's element and the roots of its place, which lie before and
 -- behind the target. Assumes nothing.
-use mathlib.Core.Path.{refl}
-use mathlib.Core.Logic.{inl, inr}
-use Prim.Native.Nat.{_+_, _-_, _*_}
+use Prim.Native.Nat.{_-_}
 use native.Mathlib.Omega.{arith}
 use lib.ListN.{length-set}
-use lib.Ieee.{binary64, mul, nan}
-use Rattle.arithmetic.specs.Arithmetic.{ieee, at}
-use Rattle.scratch.specs.Parts.{part}
-use Rattle.scratch.proofs.Parts.{getD-kept}
-use Rattle.scratch.proofs.Writing.{Written, written-none, written-all, outside-kept}
-use Rattle.graph_pairs.specs.Pairs.{alternate}
-use Rattle.graph_pairs.proofs.Pairs.{pair-written}
+use Rattle.varcoef_magnus_graph_pairs.proofs.Turns.{Scaling, scaling-none, scaling-next, scaling-all}
 use Rattle.varcoef_magnus_graph_pairs.proofs.kernel.scale_in.Statement.{statement}
 use Rattle.varcoef_magnus_graph_pairs.proofs.kernel.scale_in.Tie as tie
 
 abbrev Inv-loop : tie.InvT-loop
-Inv-loop work₀ n roots source target i₀ work i =
-    let A = ieee binary64 in
-    let r = part roots (2 * n) work₀ in
-    let v = part source n work₀ in
-    Written target (alternate (λ j. mul binary64 (at A r (2 * j)) (at A v j)) (λ j. mul binary64 (at A r (2 * j + 1)) (at A v j))) (2 * n)
-    work₀ (2 * i) work
+Inv-loop work₀ n roots source target i₀ work i = Scaling n roots source target work₀ i work
 
 abbrev μ-loop : tie.MeasureT-loop
 μ-loop work₀ n roots source target i₀ work i =
     n - i
 
 loop-holds : tie.Need-loop-holds Inv-loop μ-loop
-loop-holds c = written-none _ _ _ _
+loop-holds c = scaling-none _ _ _ _ _
 
 add-x : tie.Need-add-x Inv-loop μ-loop
 add-x c = omega arith
@@ -89,28 +76,19 @@ loop-less c = omega arith
 
 loop-again : tie.Need-loop-again Inv-loop μ-loop
 loop-again c =
-    let start = c .before .before .before .before .before in
+    let head = c .before .before .before .before in
+    let start = head .before in
     let args = start .args in
-    let A = ieee binary64 in
-    let n = args .n in
-    let i = c .before .before .before .before .loop .i in
-    let r = part (args .roots) (2 * n) (args .work .now) in
-    let v = part (args .source) n (args .work .now) in
-    let written = c .before .before .before .before .loop .inv in
-    let turn = c .before .before .before .loop-test .taken in
-    let source = outside-kept written (args .source) n (inl (start .pre .0)) in
-    let roots = outside-kept written (args .roots) (2 * n) (inr (start .pre .1)) in
-    let x = getD-kept (args .source) n _ _ source i turn _ refl nan in
-    let r1 = getD-kept (args .roots) (2 * n) _ _ roots (2 * i) (omega arith) _ refl nan in
-    let r2 = getD-kept (args .roots) (2 * n) _ _ roots (2 * i + 1) (omega arith) (args .roots + 2 * i + 1) (omega arith) nan in
-    pair-written (λ j. mul binary64 (at A r (2 * j)) (at A v j)) (λ j. mul binary64 (at A r (2 * j + 1)) (at A v j)) written turn
-    _ _ _ _ (omega arith) (omega arith) (λ k. mul binary64 (r1 k) (x k)) (λ k. mul binary64 (r2 k) (x k))
+    scaling-next (args .n) (args .roots) (args .source) (args .target) (args .work .now) (start .pre) (head .loop .inv)
+    (c .before .before .before .loop-test .taken)
 
 same-length : tie.Need-same-length Inv-loop μ-loop
-same-length c = c .before .loop .inv .length-kept
+same-length c = c .before .loop .inv .written .length-kept
 
 returns : tie.Need-returns Inv-loop μ-loop
-returns c = written-all (c .before .loop .inv) (omega arith) refl
+returns c =
+    let start = c .before .before in
+    scaling-all _ _ _ _ _ (start .pre) (c .before .loop .inv) (c .loop-test .left)
 
 pub scale-in-spec : {M : Type 1} → statement M
 scale-in-spec =

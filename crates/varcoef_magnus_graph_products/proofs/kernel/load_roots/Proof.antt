@@ -1,7 +1,7 @@
 -- `varcoef_magnus_graph_products::kernel::load_roots` meets its contract: the part of the slice that is lent for the roots comes
 -- back as the vector of roots, and the rest is as it was. Assumes nothing.
 use lib.Ieee.{binary64}
-use Rattle.square_root.specs.SquareRoot.{squareRoot}
+use Rattle.ieee_square_root.specs.SquareRoot.{squareRoot}
 use Rattle.scratch.proofs.Parts.{image-placed}
 use Rattle.varcoef_magnus_graph_products.proofs.kernel.load_roots.Statement.{statement}
 use Rattle.varcoef_magnus_graph_products.proofs.kernel.load_roots.Tie as tie

@@ -10,7 +10,7 @@ use lib.Ieee.{binary64}
 use Rattle.rounding.specs.StepLength.{minusHalf}
 use Rattle.arithmetic.specs.Arithmetic.{ieee}
 use Rattle.arithmetic.proofs.Tabulate.{length-tabulate}
-use Rattle.square_root.specs.SquareRoot.{squareRoot}
+use Rattle.ieee_square_root.specs.SquareRoot.{squareRoot}
 use Rattle.graph_rows.specs.RowProduct.{rowProduct64}
 use Rattle.varcoef_magnus_graph_taylor_term.specs.WeightedOmega4.{weightedOmega4}
 use Rattle.varcoef_magnus_graph_step.proofs.Terms.{all-loaded, step-done-la}

@@ -57,17 +57,8 @@ returns-2 c =
     (args .a-starts .now) (args .a-ends .now) (args .work .now) _ _ (start .pre .1 .0) (start .pre .1 .1 .0 .0) (start .pre .1 .1 .1)
     (sampled .sample .ensures) _ _ (accepted .enum-told .given .1) (weighted .sample-weights .ensures) (c .enum-told4 .given .1)
 
-mul-roots-in : tie.Need-mul-roots-in
-mul-roots-in c = search needs
-
-mul-roots-in-2 : tie.Need-mul-roots-in-2
-mul-roots-in-2 c = search needs
-
-mul-roots-in-3 : tie.Need-mul-roots-in-3
-mul-roots-in-3 c = search needs
-
-roots-in-requires : tie.Need-roots-in-requires
-roots-in-requires c κs = search needs
+weight-roots-requires : tie.Need-weight-roots-requires
+weight-roots-requires c κs = search needs
 
 sampled-taylor4-requires : tie.Need-sampled-taylor4-requires
 sampled-taylor4-requires c κs =
@@ -78,7 +69,7 @@ sampled-taylor4-requires c κs =
     let room = start .pre .1 .1 .1 in
     let kept1 = sampled .sample .kept .1 .1 .1 .1 .1 .1 .0 in
     let kept2 = weighted .sample-weights .kept .1 .1 .1 .1 .0 in
-    let kept3 = rooted .roots-in .kept .0 in
+    let kept3 = rooted .weight-roots .kept .0 in
     (start .pre .0, omega (arith, room, kept1, kept2, kept3))
 
 same-length-3 : tie.Need-same-length-3
@@ -98,7 +89,7 @@ returns-3 c =
     sampled-taken (args .n) (args .row-ptr .now) (args .col-idx .now) (args .tau) (args .fraction1) (args .fraction2) (args .starts .now) (args .ends .now)
     (args .a-starts .now) (args .a-ends .now) (args .work .now) _ _ (start .pre .1 .0) (start .pre .1 .1 .0 .0) (start .pre .1 .1 .1)
     (sampled .sample .ensures) _ _ (accepted .enum-told .given .1) (weighted .sample-weights .ensures) _ (accepted1 .enum-told3 .given .1)
-    (rooted .roots-in .ensures) (formed .sampled-taylor4 .ensures)
+    (rooted .weight-roots .ensures) (formed .sampled-taylor4 .ensures)
 
 pub sampled-step-spec : {M : Type 1} → statement M
 sampled-step-spec =
@@ -116,10 +107,7 @@ sampled-step-spec =
     enum-told-4
     same-length-2
     returns-2
-    mul-roots-in
-    mul-roots-in-2
-    mul-roots-in-3
-    roots-in-requires
+    weight-roots-requires
     sampled-taylor4-requires
     same-length-3
     returns-3)

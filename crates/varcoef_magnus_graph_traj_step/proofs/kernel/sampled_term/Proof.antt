@@ -3,7 +3,7 @@
 use native.Mathlib.Omega.{arith}
 use lib.Ieee.{ofBits, neg}
 use borrow.Author.Needs.{needs}
-use Rattle.varcoef_magnus_graph_traj_step.proofs.Terms.{sampled-term-added, image-scaled}
+use Rattle.varcoef_magnus_graph_traj_step.proofs.Terms.{sampled-term-added}
 use Rattle.varcoef_magnus_graph_traj_step.proofs.kernel.sampled_term.Statement.{statement}
 use Rattle.varcoef_magnus_graph_traj_step.proofs.kernel.sampled_term.Tie as tie
 
@@ -25,14 +25,14 @@ mul-values c = search needs
 rooted-products-in-requires : tie.Need-rooted-products-in-requires
 rooted-products-in-requires c κs =
     let start = c .before .before .before .before in
-    let room = start .pre .1 .0 in
+    let room = start .pre .1 in
     (start .pre .0, ((omega arith, omega arith, omega arith, omega arith), omega (arith, room)))
 
 rooted-term-in-requires : tie.Need-rooted-term-in-requires
 rooted-term-in-requires c κs =
     let products = c .before .before .before in
     let start = products .before .before .before .before .before in
-    let room = start .pre .1 .0 in
+    let room = start .pre .1 in
     let kept = products .rooted-products-in .kept .1 .1 .0 in
     (start .pre .0, ((omega arith, omega arith, omega arith, omega arith), (omega arith, omega (arith, room, kept))))
 
@@ -45,12 +45,9 @@ returns c =
     let term = c .before .before in
     let products = term .before .before .before .before in
     let start = products .before .before .before .before .before in
-    let args = start .args in (
-      sampled-term-added (args .n) (args .row-ptr .now) (args .col-idx .now) (args .work .now) _ (start .pre .1 .0) (start .pre .1 .1)
-          (products .rooted-products-in .ensures) (args .s) (args .sign) (args .tau) (args .coefficient) _ (term .rooted-term-in .ensures),
-      image-scaled (args .n) (args .row-ptr .now) (args .col-idx .now) (args .work .now) _ (start .pre .1 .0) (start .pre .1 .1)
-          (products .rooted-products-in .ensures) (args .s) (args .sign) (args .tau) (args .coefficient) _ (term .rooted-term-in .ensures),
-    )
+    let args = start .args in
+    sampled-term-added (args .n) (args .row-ptr .now) (args .col-idx .now) (args .work .now) _ (start .pre .1)
+    (products .rooted-products-in .ensures) (args .s) (args .sign) (args .tau) (args .coefficient) _ (term .rooted-term-in .ensures)
 
 pub sampled-term-spec : {M : Type 1} → statement M
 sampled-term-spec =

@@ -1,0 +1,2 @@
+// The text of an answer (01, "The job program").
+pub mod kernel;

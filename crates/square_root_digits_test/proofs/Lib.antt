@@ -1,0 +1,2 @@
+pub mod SignBit
+pub mod Square

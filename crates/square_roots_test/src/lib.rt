@@ -1,0 +1,2 @@
+// Whether the values of a vector are the square roots of another, all of them (01, part 4).
+pub mod kernel;
