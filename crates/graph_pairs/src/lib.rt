@@ -1,2 +1,4 @@
-// Products with two samples of one pattern at once, whose values lie as pairs: one walk reads the pattern for both.
+// Products with two samples of one pattern at once: one walk over a row reads the pattern for both. Their values lie as pairs (`kernel`), or in
+// two lists (`lists`).
 pub mod kernel;
+pub mod lists;

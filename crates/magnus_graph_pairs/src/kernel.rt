@@ -4,7 +4,7 @@
 //   n   v, the signal and then its images under Ω, n places
 //   2n  pairs of b = L2 v and a = L1 v, n of them
 ghost use mathlib.Core.Path.{_≡_};
-ghost use Prim.Native.Nat.{_+_, _*_, _≤_, _<_};
+ghost use Prim.Native.Nat.{_+_, _*_, _≤_};
 ghost use lib.ListN.{length};
 ghost use lib.Ieee.{binary64};
 ghost use Rattle.rounding.specs.StepLength.{minusHalf};
@@ -15,60 +15,9 @@ ghost use Rattle.graph_rows.specs.RowProduct.{rowSum64, rowProduct64};
 ghost use Rattle.magnus.specs.Operators.{omega4};
 ghost use Rattle.magnus_graph_helpers.specs.Terms.{omega4Sum, TermAdded};
 ghost use Rattle.graph_pairs.specs.Pairs.{pairs, firsts, seconds};
-use graph_pairs::kernel::RowSums;
+use graph_pairs::lists::row_sums_of_one;
+use graph_pairs::lists::row_sums_of_two;
 use scratch_sums::kernel::add_scaled;
-
-// Row i of the products of both samples with src (01, part 1), each formed as `graph::kernel::row_sum` forms it.
-fn row_sums_of_one(
-    row_ptr: &[usize],
-    col_idx: &[u32],
-    vals1: &[f64],
-    vals2: &[f64],
-    src: &[f64],
-    i: usize,
-) -> RowSums
-    requires { ⌜ ValuedPattern (length (now src)) (now «row_ptr») (now «col_idx») (now vals1) ⌝ }
-    requires { ⌜ (length (now vals2) ≡ length (now «col_idx»)) × (i < length (now src)) ⌝ }
-    ensures { λ r. let row = rowSum64 (now («row_ptr» .entry)) (now («col_idx» .entry)) in
-        ⌜ (r .first ≡ row (now (vals1 .entry)) (now (src .entry)) i) × (r .second ≡ row (now (vals2 .entry)) (now (src .entry)) i) ⌝ }
-{
-    let mut first = 0.0;
-    let mut second = 0.0;
-    for k in row_ptr[i]..row_ptr[i + 1] {
-        let c = col_idx[k] as usize;
-        let x = src[c];
-        first = first + vals1[k] * x;
-        second = second + vals2[k] * x;
-    }
-    RowSums { first, second }
-}
-
-// Row i of the product of the first sample with the first of two vectors, and of the second sample with the second one.
-fn row_sums_of_two(
-    row_ptr: &[usize],
-    col_idx: &[u32],
-    vals1: &[f64],
-    vals2: &[f64],
-    src: &[f64],
-    n: usize,
-    i: usize,
-) -> RowSums
-    requires { ⌜ ValuedPattern n (now «row_ptr») (now «col_idx») (now vals1) ⌝ }
-    requires { ⌜ (length (now vals2) ≡ length (now «col_idx»)) × (length (now src) ≡ 2 * n) × (i < n) ⌝ }
-    ensures { λ r. let A = ieee binary64 in
-        let row = rowSum64 (now («row_ptr» .entry)) (now («col_idx» .entry)) in
-        ⌜ (r .first ≡ row (now (vals1 .entry)) (firsts A n (now (src .entry))) i)
-        × (r .second ≡ row (now (vals2 .entry)) (seconds A n (now (src .entry))) i) ⌝ }
-{
-    let mut first = 0.0;
-    let mut second = 0.0;
-    for k in row_ptr[i]..row_ptr[i + 1] {
-        let c = col_idx[k] as usize;
-        first = first + vals1[k] * src[2 * c];
-        second = second + vals2[k] * src[2 * c + 1];
-    }
-    RowSums { first, second }
-}
 
 // The n pairs at `target` become the products of both samples with the vector v at `source`, which lies before them: that of the second
 // sample, b, and then that of the first, a, so that each next meets the other sample's values.

@@ -8,9 +8,6 @@ use little_endian::kernel::word16;
 use little_endian::kernel::word32;
 use little_endian::kernel::word64;
 
-pub mod answers;
-pub mod texts;
-
 // A position beyond every case: with its head of 6 bytes a case has at most 65,536.
 const BEYOND: usize = 65536;
 

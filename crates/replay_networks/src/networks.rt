@@ -1,21 +1,18 @@
 // The calls on networks: kinds 2 to 4. The arrays have room for the longest slices of the list.
-use float::bits::has_bits;
-use graph::Bounded;
 use graph::apply_into_slice;
 use graph::from_csr_parts;
 use graph::gershgorin_bound_csr;
-use replay_fields::answers::Answer;
-use replay_fields::answers::after_answer;
-use replay_fields::answers::answer_at;
-use replay_fields::answers::is_acceptance;
-use replay_fields::answers::is_checked;
-use replay_fields::answers::is_refusal;
-use replay_fields::answers::written_right;
+use replay_answers::after_answer;
+use replay_answers::answer_at;
+use replay_answers::is_acceptance;
+use replay_answers::is_checked;
+use replay_answers::written_right;
 use replay_fields::ends;
 use replay_fields::further;
 use replay_fields::number64;
 use replay_fields::read_parts;
 use replay_fields::read_reals;
+use replay_limits::is_bounded;
 
 // Whether `from_csr_parts` answers what stands at a position.
 fn parts_right(
@@ -28,14 +25,6 @@ fn parts_right(
 ) -> bool {
     let checked = from_csr_parts(n, row_ptr, col_idx, vals);
     is_checked(answer_at(fields, at), checked) && ends(fields, after_answer(fields, at))
-}
-
-// Whether what `gershgorin_bound_csr` answered is expected: the bound of those bits, where the acceptance is.
-pub fn is_bounded(expected: Answer, bits: u64, bounded: Bounded) -> bool {
-    match bounded {
-        Bounded::Bound(bound) => is_acceptance(expected) && has_bits(bound, bits),
-        Bounded::Refused(refusal) => is_refusal(expected, refusal),
-    }
 }
 
 // Whether `gershgorin_bound_csr` answers what stands at a position. After an acceptance stands the bound.

@@ -2,7 +2,7 @@
 use float::bits::from_bits;
 use graph_signal::axpy_into_slice;
 use graph_signal::copy_from;
-use replay_fields::answers::written_right;
+use replay_answers::written_right;
 use replay_fields::further;
 use replay_fields::number64;
 use replay_fields::read_reals;

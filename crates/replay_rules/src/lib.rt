@@ -8,8 +8,6 @@ use replay_fields::further;
 use replay_fields::number32;
 use replay_fields::number64;
 
-pub mod trajectories;
-
 // A position at which no case ends.
 pub const BEYOND: usize = 65536;
 

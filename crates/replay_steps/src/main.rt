@@ -5,12 +5,7 @@ use replay::Tally;
 use replay::next_case;
 
 mod calls;
-mod numbers;
-mod order6;
-mod rooms;
 mod steps;
-mod weighted_steps;
-mod work;
 
 // Whether the call of a kind does what the case says.
 fn right(kind: u64, fields: &[u8]) -> bool {

@@ -1,19 +1,19 @@
 // Whether a step does what its case says. A step of order 4 has an empty third sample, and an unweighted step has no weights; neither call
 // takes them.
 use crate::calls::stepped;
-use crate::numbers::Numbers;
-use crate::numbers::numbers_at;
-use crate::order6::read_third;
-use crate::rooms::columns_room;
-use crate::rooms::reals_room;
-use crate::rooms::starts_room;
-use crate::rooms::work_room;
-use crate::weighted_steps::read_weights;
-use crate::work::outcome_right;
-use crate::work::work_at;
 use float::bits::from_bits;
 use replay_fields::read_parts;
 use replay_fields::read_reals;
+use replay_step_fields::numbers::Numbers;
+use replay_step_fields::numbers::numbers_at;
+use replay_step_fields::order6::read_third;
+use replay_step_fields::rooms::columns_room;
+use replay_step_fields::rooms::reals_room;
+use replay_step_fields::rooms::starts_room;
+use replay_step_fields::rooms::work_room;
+use replay_step_fields::weighted_steps::read_weights;
+use replay_step_fields::work::outcome_right;
+use replay_step_fields::work::work_at;
 
 // Whether the step of a kind does what the case says from a position on. First stand the length of the work slice and
 // the bits that each of its elements has before.

@@ -1,0 +1,63 @@
+// The rows of the products of two samples of one pattern whose values lie in two lists, for callers that have checked it: one walk over a
+// row forms both. Two vectors of which one goes to each sample lie as pairs.
+ghost use mathlib.Core.Path.{_≡_};
+ghost use Prim.Native.Nat.{_*_, _<_};
+ghost use lib.ListN.{length};
+ghost use lib.Ieee.{binary64};
+ghost use Rattle.arithmetic.specs.Arithmetic.{ieee};
+ghost use Rattle.graph_checks.specs.Pattern.{ValuedPattern};
+ghost use Rattle.graph_rows.specs.RowProduct.{rowSum64};
+ghost use Rattle.graph_pairs.specs.Pairs.{firsts, seconds};
+use crate::kernel::RowSums;
+
+// Row i of the products of both samples with src (01, part 1), each formed as `graph::kernel::row_sum` forms it.
+pub fn row_sums_of_one(
+    row_ptr: &[usize],
+    col_idx: &[u32],
+    vals1: &[f64],
+    vals2: &[f64],
+    src: &[f64],
+    i: usize,
+) -> RowSums
+    requires { ⌜ ValuedPattern (length (now src)) (now «row_ptr») (now «col_idx») (now vals1) ⌝ }
+    requires { ⌜ (length (now vals2) ≡ length (now «col_idx»)) × (i < length (now src)) ⌝ }
+    ensures { λ r. let row = rowSum64 (now («row_ptr» .entry)) (now («col_idx» .entry)) in
+        ⌜ (r .first ≡ row (now (vals1 .entry)) (now (src .entry)) i) × (r .second ≡ row (now (vals2 .entry)) (now (src .entry)) i) ⌝ }
+{
+    let mut first = 0.0;
+    let mut second = 0.0;
+    for k in row_ptr[i]..row_ptr[i + 1] {
+        let c = col_idx[k] as usize;
+        let x = src[c];
+        first = first + vals1[k] * x;
+        second = second + vals2[k] * x;
+    }
+    RowSums { first, second }
+}
+
+// Row i of the product of the first sample with the first of two vectors, and of the second sample with the second one.
+pub fn row_sums_of_two(
+    row_ptr: &[usize],
+    col_idx: &[u32],
+    vals1: &[f64],
+    vals2: &[f64],
+    src: &[f64],
+    n: usize,
+    i: usize,
+) -> RowSums
+    requires { ⌜ ValuedPattern n (now «row_ptr») (now «col_idx») (now vals1) ⌝ }
+    requires { ⌜ (length (now vals2) ≡ length (now «col_idx»)) × (length (now src) ≡ 2 * n) × (i < n) ⌝ }
+    ensures { λ r. let A = ieee binary64 in
+        let row = rowSum64 (now («row_ptr» .entry)) (now («col_idx» .entry)) in
+        ⌜ (r .first ≡ row (now (vals1 .entry)) (firsts A n (now (src .entry))) i)
+        × (r .second ≡ row (now (vals2 .entry)) (seconds A n (now (src .entry))) i) ⌝ }
+{
+    let mut first = 0.0;
+    let mut second = 0.0;
+    for k in row_ptr[i]..row_ptr[i + 1] {
+        let c = col_idx[k] as usize;
+        first = first + vals1[k] * src[2 * c];
+        second = second + vals2[k] * src[2 * c + 1];
+    }
+    RowSums { first, second }
+}
