@@ -15,7 +15,7 @@ pub struct RowSums {
     pub second: f64,
 }
 
-// Row i of the products of both samples with src (01, part 1), each formed as `graph::kernel::row_sum` forms it.
+// Row i of the products of both samples with src (01, part 1), each formed as `graph_rows::kernel::row_sum` forms it.
 pub fn row_sums_of_one(
     row_ptr: &[usize],
     col_idx: &[u32],

@@ -10,7 +10,7 @@ ghost use Rattle.graph_rows.specs.RowProduct.{rowSum64};
 ghost use Rattle.graph_pairs.specs.Pairs.{firsts, seconds};
 use crate::kernel::RowSums;
 
-// Row i of the products of both samples with src (01, part 1), each formed as `graph::kernel::row_sum` forms it.
+// Row i of the products of both samples with src (01, part 1), each formed as `graph_rows::kernel::row_sum` forms it.
 pub fn row_sums_of_one(
     row_ptr: &[usize],
     col_idx: &[u32],
