@@ -4,8 +4,6 @@ ghost use mathlib.Core.Bool.{_&&_};
 ghost use lib.Ieee.Scale.{finite};
 ghost use Rattle.float.specs.All.{all};
 
-pub mod bits;
-
 // Whether x is neither an infinity nor a NaN: the difference x - x is +0 for a finite x, and NaN for any other.
 pub fn is_finite(x: f64) -> bool
     ensures { λ r. ⌜ r ≡ finite x ⌝ }

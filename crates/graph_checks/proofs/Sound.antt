@@ -1,29 +1,18 @@
--- What the checks accept: that of the values exactly finite values, and so the whole check of a pattern exactly a `Pattern`, and that of
--- a Laplacian exactly a `Laplacian`. The crates above use these, and not the checks' definitions. Assumes nothing.
-use mathlib.Core.Path.{_≡_, sym, ap, _∙_}
+-- What the checks accept: that of a pattern exactly a `Pattern`, and that of a Laplacian exactly a `Laplacian`. The crates above use these, and not the checks' definitions. Assumes nothing.
+use mathlib.Core.Path.{_≡_, sym, _∙_}
 use mathlib.Core.Logic.{_↔_}
-use mathlib.Core.Bool.{true, not}
 use mathlib.Core.List.{List}
-use Prim.Native.Nat.{ℕ, _<_}
+use Prim.Native.Nat.{ℕ}
 use lib.ListN.{length, getD}
-use lib.Ieee.{Float, nan}
-use lib.Ieee.Scale.{finite}
-use borrow.Author.Tests.{not-false}
+use lib.Ieee.{Float}
 use Rattle.error.specs.declared.Checked.the-variants.{Accepted}
 use Rattle.error.proofs.Checks.{next-accepted}
-use Rattle.graph_shape.proofs.First.{refuseFirst-accepted}
-use Rattle.graph_shape.proofs.Sound.{shape-accepted, entry-count-accepted}
+use Rattle.graph_counts.proofs.Sound.{entry-count-accepted}
+use Rattle.graph_shape.proofs.Sound.{shape-accepted}
 use Rattle.graph_columns.proofs.Sound.{columns-accepted}
+pub use Rattle.graph_values.proofs.Sound.{values-accepted}
 use Rattle.graph_checks.specs.Pattern.{Pattern, Laplacian}
-use Rattle.graph_checks.specs.PatternChecks.{valueFault, patternFault, csrFault}
-
-pub values-accepted : (vals : List Float)
-    → (valueFault vals ≡ Accepted) ↔ ((k : ℕ) → k < length vals → finite (getD vals k nan) ≡ true)
-unfolding valueFault
-values-accepted vals = (
-  λ h k l. not-false _ (refuseFirst-accepted _ _ _ .0 h k l),
-  λ h. refuseFirst-accepted _ _ _ .1 (λ k l. ap not (h k l)),
-)
+use Rattle.graph_checks.specs.PatternChecks.{patternFault, csrFault}
 
 pub pattern-accepted : (n : ℕ) (starts cols : List ℕ) → (patternFault n starts cols ≡ Accepted) ↔ Pattern n starts cols
 unfolding patternFault

@@ -4,10 +4,9 @@ ghost use Rattle.error.specs.Refusals.{Answers};
 ghost use Rattle.graph_checks.specs.PatternChecks.{patternFault, csrFault};
 use error::Checked;
 use graph_columns::kernel::check_columns;
-use graph_shape::check_entry_count;
+use graph_counts::check_entry_count;
 use graph_shape::check_shape;
-
-mod check;
+use graph_values::kernel::check_values;
 
 // Whether the parts make up a Laplacian: rows 6 and 1 to 5, in that order. The first row start need not be 0; the
 // entries before it belong to no row, and are checked like the others.
@@ -26,7 +25,7 @@ pub fn from_csr_parts(n: usize, row_ptr: &[usize], col_idx: &[u32], vals: &[f64]
     let Checked::Accepted = columns else {
         return columns;
     };
-    check::check_values(n, row_ptr, vals)
+    check_values(n, row_ptr, vals)
 }
 
 // The same of a pattern, which has no values: rows 6 and 1 to 4, row 3 for the columns alone.

@@ -1,5 +1,5 @@
 -- The laws of two vectors that lie in one list as pairs: what each place holds, the vectors read back, and the loop that writes a pair a
--- turn. Assumes nothing.
+-- turn; and those of a row whose entries are added one by one. Assumes nothing.
 use mathlib.Core.Path.{_≡_, refl, sym, ap, _∙_}
 use mathlib.Core.List.{List}
 use Prim.Native.Nat.{ℕ, zero, suc, _≤_, _<_, _+_ as _+ℕ_, _*_ as _*ℕ_}
@@ -11,8 +11,15 @@ use Rattle.arithmetic.proofs.Tabulate.{tabulate-same}
 use Rattle.arithmetic.specs.Product.{entries}
 use Rattle.arithmetic.proofs.Product.{at-tabulate, entries-next}
 use Rattle.scratch.proofs.Writing.{Written, written-next}
+use Rattle.graph_checks.specs.Pattern.{Pattern}
+use Rattle.graph_rows.proofs.RowEntries.{entry-stored, entry-column}
 use Rattle.magnus_graph_helpers.proofs.Terms.{omega4SumAt}
-use Rattle.graph_pairs.specs.Pairs.{alternate, pairs, firsts, seconds}
+use Rattle.graph_pairs.specs.Pairs.{alternate, pairs, firsts, seconds, withEntry}
+
+-- an entry before the end of row i is stored, and its column is a node
+pub entry-here : {n : ℕ} {starts cols : List ℕ} → Pattern n starts cols
+    → (i k : ℕ) → i < n → k < getD starts (i +ℕ 1) 0 → (k < length cols) × (getD cols k 0 < n)
+entry-here pattern i k l h = (entry-stored (pattern .rows) i k l h, entry-column pattern i k l h)
 
 module _ {K : Type 0} where
   -- an even place has the first element of its pair, an odd one the second
@@ -72,14 +79,30 @@ module _ {K : Type 0} (A : Arithmetic K) where
   pub seconds-of-pairs : (n : ℕ) (f g : ℕ → K) → seconds A n (pairs n f g) ≡ tabulate g n
   seconds-of-pairs n f g = tabulate-same _ _ n (second-of-pair n f g)
 
-  -- one entry more of a row, from its value and its signal, wherever they were read
-  pub entry-added : (cols : List ℕ) (vals x : List K) (lo k : ℕ) (acc value signal : K)
-      → lo ≤ k
-      → acc ≡ entries A cols vals x lo k
+  -- an entry is added by its value and its signal, wherever they were read
+  pub entry-read : (cols : List ℕ) (k : ℕ) (vals x : List K) (sum : K) {value signal : K}
       → value ≡ at A vals k
       → signal ≡ at A x (getD cols k 0)
-      → acc + value * signal ≡ entries A cols vals x lo (k +ℕ 1)
-  entry-added cols vals x lo k acc value signal h p q r = rw (p, q, r, entries-next A cols vals x lo k h)
+      → sum + value * signal ≡ withEntry A cols k vals x sum
+  entry-read cols k vals x sum p q = λ i. sum + p i * q i
+
+  -- one entry more of a row, and two more
+  pub with-entry : (cols : List ℕ) (vals x : List K) (lo k : ℕ) {sum next : K}
+      → lo ≤ k
+      → sum ≡ entries A cols vals x lo k
+      → next ≡ withEntry A cols k vals x sum
+      → next ≡ entries A cols vals x lo (k +ℕ 1)
+  with-entry cols vals x lo k h p q = q ∙ ap (withEntry A cols k vals x) p ∙ sym (entries-next A cols vals x lo k h)
+
+  pub with-two-entries : (cols : List ℕ) (vals x : List K) (lo k : ℕ) {sum next last : K}
+      → lo ≤ k
+      → sum ≡ entries A cols vals x lo k
+      → next ≡ withEntry A cols k vals x sum
+      → last ≡ withEntry A cols (k +ℕ 1) vals x next
+      → last ≡ entries A cols vals x lo (k +ℕ 2)
+  with-two-entries cols vals x lo k h p q r =
+      let twice : k +ℕ 1 +ℕ 1 ≡ k +ℕ 2 = omega arith in
+      with-entry cols vals x lo (k +ℕ 1) (omega arith) (with-entry cols vals x lo k h p q) r ∙ ap (entries A cols vals x lo) twice
 
   -- a place of Ωv, from what its vectors hold there
   pub omega-place : (scale commScale : K) (a b c d : List K) (i : ℕ) {x y z u : K}

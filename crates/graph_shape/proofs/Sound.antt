@@ -1,5 +1,4 @@
--- What the checks of the sizes and the row starts accept: each row of the table exactly what it should, and so the whole exactly
--- `Rows`. Assumes nothing.
+-- What the checks of the counts and the row starts accept: the whole exactly `Rows`. Assumes nothing.
 use mathlib.Core.Path.{_≡_, sym, _∙_}
 use mathlib.Core.Logic.{_↔_, ⊎-elim}
 use mathlib.Core.List.{List}
@@ -10,25 +9,11 @@ use native.Mathlib.Omega.{arith}
 use lib.ListN.{length, getD}
 use borrow.Author.Tests.{ltb-false, le-ltb}
 use Rattle.error.specs.declared.Checked.the-variants.{Accepted}
-use Rattle.error.proofs.Checks.{refuseIf-accepted, refuseUnequal-accepted, next-accepted}
+use Rattle.error.proofs.Checks.{next-accepted}
+use Rattle.graph_counts.proofs.Sound.{size-accepted, row-start-count-accepted, entry-count-accepted}
 use Rattle.graph_shape.specs.Rows.{Rows}
-use Rattle.graph_shape.specs.ShapeChecks.{sizeFault, rowStartCountFault, rowStartsFault, entryCountFault, shapeFault}
+use Rattle.graph_shape.specs.ShapeChecks.{rowStartsFault, entryCountFault, shapeFault}
 use Rattle.graph_shape.proofs.First.{refuseFirst-accepted}
-
-pub size-accepted : (n columns : ℕ) → (sizeFault n columns ≡ Accepted) ↔ ((n ≤ 4096) × (columns ≤ 65535))
-unfolding sizeFault
-size-accepted n columns = (
-  λ h.
-      let g = next-accepted _ _ .0 h in
-      (ltb-false _ _ (refuseIf-accepted _ _ .0 (g .0)), ltb-false _ _ (refuseIf-accepted _ _ .0 (g .1))),
-  λ h.
-      next-accepted _ _ .1
-      (refuseIf-accepted _ _ .1 (le-ltb _ _ (h .0)), refuseIf-accepted _ _ .1 (le-ltb _ _ (h .1))),
-)
-
-pub row-start-count-accepted : (n count : ℕ) → (rowStartCountFault n count ≡ Accepted) ↔ (count ≡ n + 1)
-unfolding rowStartCountFault
-row-start-count-accepted n count = refuseUnequal-accepted count (n + 1) _
 
 pub row-starts-accepted : (n : ℕ) (starts : List ℕ)
     → (rowStartsFault n starts ≡ Accepted) ↔ ((i : ℕ) → i < n → getD starts i 0 ≤ getD starts (i + 1) 0)
@@ -37,10 +22,6 @@ row-starts-accepted n starts = (
   λ h i l. ltb-false _ _ (refuseFirst-accepted _ _ _ .0 h i l),
   λ h. refuseFirst-accepted _ _ _ .1 (λ i l. le-ltb _ _ (h i l)),
 )
-
-pub entry-count-accepted : (count last : ℕ) → (entryCountFault count last ≡ Accepted) ↔ (count ≡ last)
-unfolding entryCountFault
-entry-count-accepted count last = refuseUnequal-accepted count last _
 
 -- starts that never fall are at most the last
 at-most-last : (starts : List ℕ) (n : ℕ)

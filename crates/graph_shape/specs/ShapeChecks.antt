@@ -6,18 +6,12 @@ use mathlib.Core.List.{List}
 use Prim.Native.Nat.{ℕ, _+_, _<_}
 use lib.Dec.{ltb}
 use lib.ListN.{length, getD}
-use Rattle.error.specs.Checks.{refuseIf, refuseUnequal, next}
-use Rattle.error.specs.declared.Refusal.the-variants.{RowStartCount, RowStartFalls, EntryCount, Size}
+use Rattle.error.specs.Checks.{next}
+use Rattle.error.specs.declared.Refusal.the-variants.{RowStartFalls}
 use Rattle.error.specs.declared.Checked.{Checked}
 use Rattle.graph_shape.specs.First.{refuseFirst}
-
--- row 6: n > 4,096, else columns > 65,535
-unfoldable pub sizeFault : ℕ → ℕ → Checked
-sizeFault n columns = next (refuseIf (ltb 4096 n) (Size n)) (refuseIf (ltb 65535 columns) (Size columns))
-
--- row 1: the count of row starts is not n + 1
-unfoldable pub rowStartCountFault : ℕ → ℕ → Checked
-rowStartCountFault n count = refuseUnequal count (n + 1) (RowStartCount count)
+-- rows 6, 1 and 3
+unfoldable pub use Rattle.graph_counts.specs.CountChecks.{sizeFault, rowStartCountFault, entryCountFault}
 
 -- row i's start exceeds the next
 abbrev pub fallsAt : List ℕ → ℕ → Bool
@@ -30,10 +24,6 @@ Rise n starts = (i : ℕ) → i < n → fallsAt starts i ≡ false
 -- row 2: the first i whose start exceeds the next
 unfoldable pub rowStartsFault : ℕ → List ℕ → Checked
 rowStartsFault n starts = refuseFirst (fallsAt starts) n RowStartFalls
-
--- row 3: the columns, or the values, are not as many as the last row start says
-unfoldable pub entryCountFault : ℕ → ℕ → Checked
-entryCountFault count last = refuseUnequal count last (EntryCount last)
 
 -- 6, 1, 2, and 3 for the columns
 unfoldable pub shapeFault : ℕ → List ℕ → ℕ → Checked

@@ -1,11 +1,14 @@
-// The checks of a Laplacian's sizes and row starts (graph.rs), one function for each row of document 01's table.
+// The checks of a Laplacian's row starts (graph.rs), after those of its counts.
 ghost use mathlib.Core.Path.{_≡_};
 ghost use mathlib.Core.Bool.{true};
-ghost use Prim.Native.Nat.{_+_, _≤_};
+ghost use Prim.Native.Nat.{_+_};
 ghost use lib.ListN.{length};
-ghost use Rattle.graph_shape.specs.ShapeChecks.{sizeFault, rowStartCountFault, Rise, rowStartsFault, entryCountFault, shapeFault};
+ghost use Rattle.graph_shape.specs.ShapeChecks.{Rise, rowStartsFault, shapeFault};
 use error::Checked;
 use error::Refusal;
+use graph_counts::check_entry_count;
+use graph_counts::check_size;
+use graph_counts::kernel::check_row_start_count;
 
 // Rows 6, 1, 2 and, of the columns, 3.
 pub fn check_shape(n: usize, row_ptr: &[usize], columns: usize) -> Checked
@@ -24,31 +27,6 @@ pub fn check_shape(n: usize, row_ptr: &[usize], columns: usize) -> Checked
         return starts;
     };
     check_entry_count(columns, row_ptr[n])
-}
-
-// Row 6: n is at most 4,096, and the columns are at most 65,535.
-fn check_size(n: usize, columns: usize) -> Checked
-    ensures { λ r. ⌜ r ≡ sizeFault n columns ⌝ }
-{
-    if n > 4096 {
-        return Checked::Refused(Refusal::Size(n));
-    }
-    if columns > 65535 {
-        return Checked::Refused(Refusal::Size(columns));
-    }
-    Checked::Accepted
-}
-
-// Row 1: there are n + 1 row starts.
-fn check_row_start_count(n: usize, count: usize) -> Checked
-    requires { ⌜ n ≤ 4096 ⌝ }
-    ensures { λ r. ⌜ r ≡ rowStartCountFault n count ⌝ }
-{
-    if count == n + 1 {
-        Checked::Accepted
-    } else {
-        Checked::Refused(Refusal::RowStartCount(count))
-    }
 }
 
 // Whether no row start exceeds the next, by one walk without a branch, so that several starts are tested at once. Where a start is 2^63 or
@@ -80,15 +58,4 @@ fn check_row_starts(n: usize, row_ptr: &[usize]) -> Checked
         }
     }
     Checked::Accepted
-}
-
-// Row 3, of the columns or of the values: they are as many as the last row start says.
-pub fn check_entry_count(count: usize, last: usize) -> Checked
-    ensures { λ r. ⌜ r ≡ entryCountFault count last ⌝ }
-{
-    if count == last {
-        Checked::Accepted
-    } else {
-        Checked::Refused(Refusal::EntryCount(last))
-    }
 }

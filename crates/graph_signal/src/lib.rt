@@ -5,7 +5,7 @@ ghost use Rattle.graph_signal.specs.Outcome.{copyOutcome, sumOutcome};
 use error::Checked;
 use error::check_length;
 use scratch::kernel::store;
-use scratch_sums::kernel::add_scaled_to;
+use scratch_scaled_sums::kernel::add_scaled_to;
 
 // The signal becomes src. Refused: 10 with src's length, where that is not the signal's.
 pub fn copy_from(signal: &mut [f64], src: &[f64]) -> Checked

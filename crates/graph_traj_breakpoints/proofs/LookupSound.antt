@@ -2,50 +2,22 @@
 -- them. Assumes nothing.
 use mathlib.Core.Path.{_≡_, refl, ap}
 use mathlib.Core.Logic.{_↔_, ⊎-elim}
-use mathlib.Core.Bool.{Bool, true, false, not, _&&_, _||_, and-eq-true-iff, true≢false, false≢true}
+use mathlib.Core.Bool.{Bool, true, false, not, _&&_, and-eq-true-iff, true≢false, false≢true}
 use mathlib.Core.List.{List}
 use Prim.Native.Nat.{ℕ, _+_, _-_, _≤_, _<_}
 use native.Mathlib.Nat.{eq-zero-or-pos}
 use native.Mathlib.Omega.{arith}
-use lib.Dec.{eqb, ltb}
 use lib.ListN.{length}
 use lib.Ieee.{Float, lt}
 use lib.Ieee.Scale.{finite}
-use borrow.Author.Tests.{eqb-false, ne-eqb, ltb-false, lt-ltb, le-ltb, not-false}
-use Rattle.error.specs.Checks.{refuseIf}
-use Rattle.error.specs.declared.Refusal.{Refusal}
+use borrow.Author.Tests.{lt-ltb, le-ltb, not-false}
 use Rattle.error.specs.declared.Checked.the-variants.{Accepted}
-use Rattle.error.proofs.Checks.{refuseIf-accepted, refuseUnequal-accepted, next-accepted}
+use Rattle.error.proofs.Checks.{refuseIf-accepted, next-accepted}
+use Rattle.graph_traj_counts.proofs.Sound.{neither}
+pub use Rattle.graph_traj_counts.proofs.Sound.{count-accepted, segment-count-accepted, pool-count-accepted}
 use Rattle.graph_checks.proofs.First.{refuseFirst-accepted}
 use Rattle.graph_traj_breakpoints.specs.Breakpoints.{breakpoint, Breakpoints, Inside}
-use Rattle.graph_traj_breakpoints.specs.LookupChecks.{segmentCountFault, poolCountFault, notRisingAt, breakpointsFault}
-use Rattle.graph_traj_breakpoints.specs.LookupChecks.{lookupTimeFault, lookupFault}
-
--- neither of two tests holds
-neither : (a b : Bool) → ((a || b) ≡ false) ↔ ((a ≡ false) × (b ≡ false))
-neither true b = (λ h. absurd (true≢false h), λ p. absurd (true≢false (p .0)))
-neither false b = (λ h. (refl, h), λ p. p .1)
-
--- a count that is refused where it is 0 or over 65,535 (rows 13 and 16)
-pub count-accepted : (count : ℕ) (r : Refusal)
-    → (refuseIf (eqb count 0 || ltb 65535 count) r ≡ Accepted) ↔ ((0 < count) × (count ≤ 65535))
-count-accepted count r = (
-  λ h.
-      let g = neither _ _ .0 (refuseIf-accepted _ _ .0 h) in
-      let some = eqb-false count 0 (g .0) in
-      (omega arith, ltb-false 65535 count (g .1)),
-  λ p.
-      refuseIf-accepted _ _ .1
-      (neither _ _ .1 (ne-eqb count 0 (λ e. omega (arith, p .0)), le-ltb 65535 count (p .1))),
-)
-
-pub segment-count-accepted : (segments : ℕ) → (segmentCountFault segments ≡ Accepted) ↔ ((0 < segments) × (segments ≤ 65535))
-unfolding segmentCountFault
-segment-count-accepted segments = count-accepted segments _
-
-pub pool-count-accepted : (count wanted : ℕ) → (poolCountFault count wanted ≡ Accepted) ↔ (count ≡ wanted)
-unfolding poolCountFault
-pool-count-accepted count wanted = refuseUnequal-accepted count wanted _
+use Rattle.graph_traj_breakpoints.specs.LookupChecks.{notRisingAt, breakpointsFault, lookupTimeFault, lookupFault}
 
 -- the test of row 15 fails exactly at a finite breakpoint above its predecessor
 abbrev RisingAt : List Float → ℕ → Type 0

@@ -3,25 +3,19 @@
 use mathlib.Core.Bool.{Bool, not, _&&_, _||_}
 use mathlib.Core.List.{List}
 use Prim.Native.Nat.{ℕ, _+_, _-_}
-use lib.Dec.{eqb, ltb}
+use lib.Dec.{ltb}
 use lib.ListN.{length}
 use lib.Ieee.{Float, lt, le}
 use lib.Ieee.Scale.{finite}
-use Rattle.error.specs.Checks.{refuseIf, refuseUnequal, next}
-use Rattle.error.specs.declared.Refusal.the-variants.{SegmentCount, PoolCount, Breakpoint, LookupTime}
+use Rattle.error.specs.Checks.{refuseIf, next}
+use Rattle.error.specs.declared.Refusal.the-variants.{Breakpoint, LookupTime}
 use Rattle.error.specs.declared.Checked.{Checked}
 use Rattle.graph_checks.specs.First.{refuseFirst}
 use Rattle.graph_traj_breakpoints.specs.Breakpoints.{breakpoint}
-
 -- ---- the rows of the table
 
--- row 13: the segments are 0 or over 65,535
-unfoldable pub segmentCountFault : ℕ → Checked
-segmentCountFault segments = refuseIf (eqb segments 0 || ltb 65535 segments) (SegmentCount segments)
-
--- row 14, of one list: it is not as long as is wanted
-unfoldable pub poolCountFault : ℕ → ℕ → Checked
-poolCountFault count wanted = refuseUnequal count wanted (PoolCount count)
+-- rows 13 and 14
+unfoldable pub use Rattle.graph_traj_counts.specs.CountChecks.{segmentCountFault, poolCountFault}
 
 -- breakpoint i is not finite, or is not above its predecessor, if it has one
 unfoldable pub notRisingAt : List Float → ℕ → Bool

@@ -4,32 +4,11 @@ ghost use mathlib.Core.Path.{_≡_};
 ghost use mathlib.Core.Bool.{not};
 ghost use Prim.Native.Nat.{_<_};
 ghost use lib.ListN.{length};
-ghost use Rattle.graph_traj_breakpoints.specs.LookupChecks.{segmentCountFault, poolCountFault, notRisingAt, breakpointsFault};
-ghost use Rattle.graph_traj_breakpoints.specs.LookupChecks.{lookupTimeFault, lookupFault};
+ghost use Rattle.graph_traj_breakpoints.specs.LookupChecks.{notRisingAt, breakpointsFault, lookupTimeFault, lookupFault};
 use error::Checked;
 use error::Refusal;
-
-// Row 13: there are 1 to 65,535 segments.
-pub fn check_segment_count(segments: usize) -> Checked
-    ensures { λ r. ⌜ r ≡ segmentCountFault segments ⌝ }
-{
-    if (segments == 0) | (segments > 65535) {
-        Checked::Refused(Refusal::SegmentCount(segments))
-    } else {
-        Checked::Accepted
-    }
-}
-
-// Row 14, of one list: it is as long as is wanted.
-pub fn check_pool_count(count: usize, wanted: usize) -> Checked
-    ensures { λ r. ⌜ r ≡ poolCountFault count wanted ⌝ }
-{
-    if count == wanted {
-        Checked::Accepted
-    } else {
-        Checked::Refused(Refusal::PoolCount(count))
-    }
-}
+use graph_traj_counts::check_pool_count;
+use graph_traj_counts::check_segment_count;
 
 // Whether breakpoint i is finite and above its predecessor, if it has one.
 fn is_rising(breakpoints: &[f64], i: usize) -> bool

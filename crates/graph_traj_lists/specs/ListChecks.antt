@@ -2,7 +2,7 @@
 -- list's end is 0 or NaN; no check that comes after an accepted one reads there. Assumes nothing.
 use mathlib.Core.Bool.{Bool}
 use mathlib.Core.List.{List}
-use Prim.Native.Nat.{ℕ, _+_, _*_}
+use Prim.Native.Nat.{ℕ}
 use lib.Dec.{ltb}
 use lib.ListN.{length, getD}
 use lib.Ieee.{Float}
@@ -11,7 +11,8 @@ use Rattle.error.specs.declared.Refusal.the-variants.{Law}
 use Rattle.error.specs.declared.Checked.{Checked}
 use Rattle.graph_checks.specs.First.{refuseFirst}
 use Rattle.graph_checks.specs.PatternChecks.{valueFault}
-use Rattle.graph_traj_breakpoints.specs.LookupChecks.{poolCountFault}
+-- row 14, as the crates above name it
+unfoldable pub use Rattle.graph_traj_counts.specs.CountChecks.{countsFault}
 
 -- law k is above 2
 abbrev pub unknownLawAt : List ℕ → ℕ → Bool
@@ -20,14 +21,6 @@ unknownLawAt laws k = ltb 2 (getD laws k 0)
 -- row 19: the first law above 2
 unfoldable pub lawsFault : List ℕ → Checked
 lawsFault laws = refuseFirst (unknownLawAt laws) (length laws) (λ k. Law (getD laws k 0))
-
--- 14 for the breakpoints, the start pool, the end pool and the laws, given by their lengths, of so many segments and columns
-unfoldable pub countsFault : ℕ → ℕ → ℕ → ℕ → ℕ → ℕ → Checked
-countsFault segments columns breakpoints starts ends laws =
-    next (poolCountFault breakpoints (segments + 1))
-    (next (poolCountFault starts (segments * columns))
-    (next (poolCountFault ends (segments * columns))
-    (poolCountFault laws segments)))
 
 -- 19, then 5 for all start lists, then for all end lists
 unfoldable pub listsFault : List ℕ → List Float → List Float → Checked

@@ -1,4 +1,4 @@
-// The checks of a trajectory's lists (graph_traj.rs): rows 14, 19 and 5 of document 01's table, and their chains. Every function answers
+// The checks of a trajectory's lists (graph_traj.rs): rows 19 and 5 of document 01's table, and their chains. Every function answers
 // what its definition in specs/ListChecks.antt says, for all inputs.
 ghost use mathlib.Core.Path.{_≡_};
 ghost use lib.ListN.{length};
@@ -7,8 +7,6 @@ ghost use Rattle.graph_checks.specs.PatternChecks.{notFiniteAt, valueFault};
 ghost use Rattle.graph_traj_lists.specs.ListChecks.{lawsFault, listsFault};
 use error::Checked;
 use error::Refusal;
-
-pub mod kernel;
 
 // Row 19: every law is 0, 1 or 2. A law is a byte, the smallest number that holds them.
 pub fn check_laws(laws: &[u8]) -> Checked

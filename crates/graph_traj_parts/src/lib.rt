@@ -7,9 +7,9 @@ ghost use Rattle.graph_traj_parts.specs.TrajectoryChecks.{trajectoryFaul
 use error::Checked;
 use error::Refusal;
 use graph_traj_breakpoints::check_breakpoints;
-use graph_traj_breakpoints::check_segment_count;
+use graph_traj_counts::check_segment_count;
+use graph_traj_counts::kernel::check_counts;
 use graph_traj_lists::check_lists;
-use graph_traj_lists::kernel::check_counts;
 
 // Row 13 of an adjoint run: there is one segment.
 pub fn check_one_segment(segments: usize) -> Checked

@@ -1,7 +1,7 @@
 -- The laws of two samples that lie as pairs: the values of each, and that a test of values, as row 20 for a sample's values and row 11 for
 -- its weights, refuses neither where every number of the pairs passes. Assumes nothing.
 use mathlib.Core.Path.{_≡_, refl, sym, ap, _∙_}
-use mathlib.Core.Bool.{Bool, true, false, _&&_}
+use mathlib.Core.Bool.{Bool, true, false, _&&_, and-assoc}
 use mathlib.Core.List.{List}
 use Prim.Native.Nat.{ℕ, _+_, _*_, _≤_, _<_}
 use native.Mathlib.Omega.{arith}
@@ -129,18 +129,20 @@ module _ (good : Float → Bool) (one two : ℕ → Float) (m target : ℕ) (w�
   sampling-none = record { written = written-none target (alternate one two) (2 * m) w₀; so-far = all-of-none good }
 
   module _ {i : ℕ} {passed : Bool} {w : List Float} (before : Sampling i passed w) where
-    pub sampling-next : i < m → {x y : Float} {t u : Bool} → x ≡ one i → y ≡ two i → t ≡ good x → u ≡ good y
-        → Sampling (i + 1) ((passed && t) && u) (set (set w (target + 2 * i) x) (target + 2 * i + 1) y)
-    sampling-next turn {x} {y} {t} {u} is-one is-two tested-one tested-two =
+    pub sampling-next : i < m → {x y : Float} {t : Bool} → x ≡ one i → y ≡ two i → t ≡ (good x && good y)
+        → Sampling (i + 1) (passed && t) (set (set w (target + 2 * i) x) (target + 2 * i + 1) y)
+    sampling-next turn {x} {y} {t} is-one is-two tested =
         let size : length (pairs m one two) ≡ 2 * m = length-tabulate (alternate one two) (2 * m) in
         let first = first-of-pair (ieee binary64) m one two i turn in
         let second = second-of-pair (ieee binary64) m one two i turn in
         let next : 2 * i + 1 + 1 ≡ 2 * (i + 1) = omega arith in
         record {
           written = pair-written one two (before .written) turn _ _ x y refl (omega arith) is-one is-two;
-          so-far = all-more good (pairs m one two) nan (2 * i + 1) (passed && t) u (omega arith)
-              (all-more good (pairs m one two) nan (2 * i) passed t (omega arith) (before .so-far) (tested-one ∙ ap good (is-one ∙ sym first)))
-              (tested-two ∙ ap good (is-two ∙ sym second))
+          so-far = ap (λ (b : Bool). passed && b) tested
+              ∙ sym (and-assoc passed (good x) (good y))
+              ∙ all-more good (pairs m one two) nan (2 * i + 1) (passed && good x) (good y) (omega arith)
+              (all-more good (pairs m one two) nan (2 * i) passed (good x) (omega arith) (before .so-far) (ap good (is-one ∙ sym first)))
+              (ap good (is-two ∙ sym second))
               ∙ ap (λ (k : ℕ). all good (take k (pairs m one two))) next;
         }
 

@@ -40,7 +40,7 @@ fn sample_pairs(
         let t = at + 2 * i;
         work[t] = first;
         work[t + 1] = second;
-        passed = passed & float::is_finite(first) & float::is_finite(second);
+        passed = passed & float::both_finite(first, second);
     }
     passed
 }

@@ -39,7 +39,7 @@ fn weight_pairs(
         let t = at + 2 * i;
         work[t] = first;
         work[t + 1] = second;
-        passed = passed & is_positive(first) & is_positive(second);
+        passed = passed & (is_positive(first) & is_positive(second));
     }
     passed
 }

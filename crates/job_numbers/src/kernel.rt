@@ -2,7 +2,7 @@
 ghost use mathlib.Core.Path.{_≡_};
 ghost use Prim.Native.Nat.{_+_, _^_, _≤_, _<_};
 ghost use Rattle.job_format.specs.JobFormat.{real, jobNodes, jobEntries, jobHas, jobField, jobTau, jobBound, jobRootBound, jobOf};
-use float::bits::from_bits;
+use float_bits::from_bits;
 use job_checks::kernel::stands_in;
 use job_format::kernel::field_start;
 use job_format::kernel::head_of;

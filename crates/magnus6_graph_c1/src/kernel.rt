@@ -13,8 +13,8 @@ ghost use Rattle.magnus6_graph_parts.specs.Omega6Parts.{C1Formed};
 use graph_scratch::kernel::product_in;
 use magnus6_graph_parts::kernel::SQRT15_OVER_3;
 use magnus6_graph_parts::kernel::form_b;
-use scratch_products::kernel::scaled_difference;
-use scratch_products::kernel::scaled_less;
+use scratch_multiples::kernel::scaled_difference;
+use scratch_multiples::kernel::scaled_less;
 
 // B1 x, B2 x and B3 x, and C1 x = B1 B2 x - B2 y.
 pub fn form_c1(

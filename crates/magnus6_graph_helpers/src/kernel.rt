@@ -15,7 +15,7 @@ ghost use Rattle.magnus.specs.OperatorArithmetic.{onVectors};
 ghost use Rattle.magnus.specs.Coefficients.{reciprocalFactorial};
 ghost use Rattle.magnus_graph_helpers.specs.Terms.{TermsAdded};
 ghost use Rattle.magnus6_graph_helpers.specs.Omega6Step.{expOmega6};
-use magnus_graph_helpers::kernel::reciprocal_factorial;
+use magnus_graph_coefficients::kernel::reciprocal_factorial;
 use magnus6_graph_term::kernel::taylor_term6;
 use scratch::kernel::clear;
 use scratch::kernel::copy_within;

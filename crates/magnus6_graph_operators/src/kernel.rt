@@ -14,9 +14,9 @@ ghost use Rattle.magnus6_graph_parts.specs.Omega6Parts.{LopFormed, RopFormed, A
 use magnus6_graph_c1::kernel::form_c1;
 use magnus6_graph_c2::kernel::form_c2;
 use scratch::kernel::copy_within;
-use scratch_products::kernel::scaled_less;
+use scratch_multiples::kernel::scaled_less;
+use scratch_scaled_sums::kernel::add_scaled;
 use scratch_sums::kernel::add;
-use scratch_sums::kernel::add_scaled;
 
 // Constants of magnus6_graph.rs and magnus6_graph_helpers.rs; their values are those of constants6 in the crate magnus.
 const ONE_OVER_12: f64 = 1.0 / 12.0;

@@ -36,8 +36,8 @@ ghost use Rattle.graph_rows.specs.RowProduct.{rowProduct64};
 ghost use Rattle.magnus.specs.Omega6.{constants6};
 ghost use Rattle.magnus6_graph_parts.specs.Omega6Parts.{scaledSecondDifference, BFormed};
 use graph_scratch::kernel::product_in;
-use scratch_products::kernel::scale_within;
-use scratch_products::kernel::scaled_difference;
+use scratch_multiples::kernel::scale_within;
+use scratch_multiples::kernel::scaled_difference;
 
 // Constants of magnus6_graph.rs; their values are those of constants6 in the crate magnus.
 pub const SQRT15_OVER_3: f64 = 1.290_994_448_735_805_6;

@@ -13,9 +13,9 @@ ghost use Rattle.magnus_graph_helpers.specs.Terms.{TermAdded};
 use magnus6_graph_operators::kernel::form_at_v;
 use magnus6_graph_operators::kernel::form_lop;
 use magnus6_graph_operators::kernel::form_rop;
-use scratch_products::kernel::scaled_difference;
+use scratch_multiples::kernel::scaled_difference;
+use scratch_scaled_sums::kernel::add_scaled;
 use scratch_sums::kernel::add;
-use scratch_sums::kernel::add_scaled;
 
 // A constant of magnus6_graph_helpers.rs; its value is that of constants6 in the crate magnus.
 const ONE_OVER_240: f64 = 1.0 / 240.0;

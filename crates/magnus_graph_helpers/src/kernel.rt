@@ -1,36 +1,11 @@
-// What the steps share, for callers that have checked their arguments: the coefficients of a Taylor sum, and Ωv of order 4
-// from its four products.
+// What the steps share, for callers that have checked their arguments: Ωv of order 4 from its four products.
 ghost use mathlib.Core.Path.{_≡_};
 ghost use Prim.Native.Nat.{_+_, _≤_};
 ghost use lib.ListN.{length};
 ghost use lib.Ieee.{binary64};
 ghost use Rattle.arithmetic.specs.Arithmetic.{ieee};
 ghost use Rattle.scratch.specs.Parts.{part, put};
-ghost use Rattle.magnus.specs.Coefficients.{reciprocalFactorial};
 ghost use Rattle.magnus_graph_helpers.specs.Terms.{omega4Sum};
-
-// The coefficient 1 / k! of a Taylor sum, one rounded division, for k from 1 to 6.
-pub fn reciprocal_factorial(k: usize) -> f64
-    requires { ⌜ (1 ≤ k) × (k ≤ 6) ⌝ }
-    ensures { λ r. ⌜ r ≡ reciprocalFactorial binary64 k ⌝ }
-{
-    if k == 6 {
-        return 1.0 / 720.0;
-    }
-    if k == 5 {
-        return 1.0 / 120.0;
-    }
-    if k == 4 {
-        return 1.0 / 24.0;
-    }
-    if k == 3 {
-        return 1.0 / 6.0;
-    }
-    if k == 2 {
-        return 1.0 / 2.0;
-    }
-    1.0 / 1.0
-}
 
 // Ωv of order 4 from its products (`apply_omega4` of the Rust, after its products): the vector d at `target` becomes
 // scale · (a + b) + comm_scale · (c - d) at each place, for the vectors at a, b and c. None of these begins before the

@@ -17,7 +17,7 @@ ghost use Rattle.magnus_graph_helpers.specs.Terms.{omega4Sum, TermAdded};
 ghost use Rattle.graph_pairs.specs.Pairs.{pairs, firsts, seconds};
 use graph_pairs::lists::row_sums_of_one;
 use graph_pairs::lists::row_sums_of_two;
-use scratch_sums::kernel::add_scaled;
+use scratch_scaled_sums::kernel::add_scaled;
 
 // The n pairs at `target` become the products of both samples with the vector v at `source`, which lies before them: that of the second
 // sample, b, and then that of the first, a, so that each next meets the other sample's values.

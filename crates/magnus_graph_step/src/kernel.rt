@@ -15,7 +15,7 @@ ghost use Rattle.magnus.specs.Coefficients.{reciprocalFactorial};
 ghost use Rattle.magnus_graph_helpers.specs.Terms.{TermsAdded};
 ghost use Rattle.magnus_graph_step.specs.Omega4.{expOmega4};
 use graph_same_pattern::same_pattern;
-use magnus_graph_helpers::kernel::reciprocal_factorial;
+use magnus_graph_coefficients::kernel::reciprocal_factorial;
 use magnus_graph_pairs::kernel::pair_term;
 use magnus_graph_term::kernel::taylor_term;
 use scratch::kernel::clear;

@@ -18,7 +18,7 @@ ghost use Rattle.magnus.specs.Operators.{omega4};
 ghost use Rattle.magnus_graph_helpers.specs.Terms.{TermAdded};
 use graph_scratch::kernel::product_in;
 use magnus_graph_helpers::kernel::omega_sum;
-use scratch_sums::kernel::add_scaled;
+use scratch_scaled_sums::kernel::add_scaled;
 
 // The product of the first sample with the vector at `source1`, to `target1`, and then that of the second sample with the
 // vector at `source2`, to `target2`.

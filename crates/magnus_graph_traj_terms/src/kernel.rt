@@ -21,10 +21,10 @@ use graph_pair_products::kernel::omega_in;
 use graph_pair_products::kernel::products_in;
 use graph_scratch::kernel::product_in;
 use magnus_graph::SQRT3_OVER_12_F64;
+use magnus_graph_coefficients::kernel::reciprocal_factorial;
 use magnus_graph_helpers::kernel::omega_sum;
-use magnus_graph_helpers::kernel::reciprocal_factorial;
 use scratch::kernel::copy_within;
-use scratch_sums::kernel::add_scaled;
+use scratch_scaled_sums::kernel::add_scaled;
 
 // ---- two samples of law 2
 

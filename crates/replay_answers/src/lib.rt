@@ -1,7 +1,7 @@
 // What a call must answer, and whether it answered that.
 use error::Checked;
 use error::Refusal;
-use float::bits::has_bits;
+use float_bits::has_bits;
 use refusal_rows::Row;
 use refusal_rows::row_of;
 use replay_fields::ends_with_reals;

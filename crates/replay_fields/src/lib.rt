@@ -2,8 +2,8 @@
 // the end of the case a number is 0, and a slice that is longer than its array leads to a position where no case ends.
 ghost use Prim.Native.Nat.{_≤_, _<_};
 ghost use Rattle.replay_fields.specs.Counts.{Counts};
-use float::bits::from_bits;
-use float::bits::has_bits;
+use float_bits::from_bits;
+use float_bits::has_bits;
 use little_endian::kernel::word16;
 use little_endian::kernel::word32;
 use little_endian::kernel::word64;

@@ -1,5 +1,5 @@
 // The cases at the limits of row 6, whose networks are too large for a list.
-use float::bits::has_bits;
+use float_bits::has_bits;
 use graph::Bounded;
 use graph::apply_into_slice;
 use graph::from_csr_parts;

@@ -1,5 +1,5 @@
 // The calls on signals: kinds 5 and 6. The arrays have room for the longest slices of the list.
-use float::bits::from_bits;
+use float_bits::from_bits;
 use graph_signal::axpy_into_slice;
 use graph_signal::copy_from;
 use replay_answers::written_right;

@@ -1,6 +1,6 @@
 // Replays a stored list of square roots: each root is worked out again and compared in every bit. Any NaN matches any NaN.
-use float::bits::from_bits;
-use float::bits::has_bits;
+use float_bits::from_bits;
+use float_bits::has_bits;
 use little_endian::kernel::word64;
 use replay::Tally;
 use replay::next_case;

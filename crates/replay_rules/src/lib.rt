@@ -2,7 +2,7 @@
 // taken as empty, and leads to a position at which no case ends.
 ghost use Prim.Native.Nat.{_≤_, _<_};
 ghost use Rattle.replay_fields.specs.Counts.{Counts};
-use float::bits::from_bits;
+use float_bits::from_bits;
 use replay_fields::Slice;
 use replay_fields::further;
 use replay_fields::number32;

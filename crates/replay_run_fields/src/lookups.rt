@@ -1,6 +1,6 @@
 // The lookup of a segment: kinds 12 and, with breakpoints by rules, 16.
 use crate::rooms::times_room;
-use float::bits::from_bits;
+use float_bits::from_bits;
 use graph_traj::Located;
 use graph_traj::segment_index;
 use replay_answers::Answer;

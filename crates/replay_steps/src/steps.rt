@@ -1,7 +1,7 @@
 // Whether a step does what its case says. A step of order 4 has an empty third sample, and an unweighted step has no weights; neither call
 // takes them.
 use crate::calls::stepped;
-use float::bits::from_bits;
+use float_bits::from_bits;
 use replay_fields::read_parts;
 use replay_fields::read_reals;
 use replay_step_fields::numbers::Numbers;

@@ -1,2 +1,2 @@
-// Multiples and products of vectors within one lent work slice (scratch.rs).
+// Products of vectors within one lent work slice (scratch.rs).
 pub mod kernel;

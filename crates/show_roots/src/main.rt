@@ -1,5 +1,5 @@
 // Prints the square roots of a few values: the bit pattern of each, and that of its root.
-use float::bits::from_bits;
+use float_bits::from_bits;
 use square_root::sqrt;
 
 const OUT: i32 = 1;

@@ -1,32 +1,14 @@
-// The walks of a weighted step whose two samples lie as pairs, for callers that have checked its arguments: the values, the roots of the
-// weights and the vectors of which one goes to each sample. A weighted product is r · (L (r · v)) at each place (01, part 5). A term of the
-// Taylor sum is two walks over the pattern, each of which also scales what it formed by the roots, as the next walk takes it; the second one
-// is `varcoef_magnus_graph_term::kernel::rooted_term_in`.
+// The first walk of a term of a weighted step whose two samples lie as pairs, for callers that have checked its arguments: the values, the
+// roots of the weights and the vectors of which one goes to each sample. A weighted product is r · (L (r · v)) at each place (01, part 5). A
+// term of the Taylor sum is two walks over the pattern, each of which also scales what it formed by the roots, as the next walk takes it; the
+// second one is `varcoef_magnus_graph_term::kernel::rooted_term_in`, and the signal is scaled by `varcoef_magnus_graph_scaled_pairs`.
 ghost use mathlib.Core.Path.{_≡_};
 ghost use Prim.Native.Nat.{_+_, _*_, _≤_};
 ghost use lib.ListN.{length};
 ghost use Rattle.scratch.specs.Parts.{part, put};
 ghost use Rattle.graph_checks.specs.Pattern.{Pattern};
-ghost use Rattle.varcoef_magnus_graph_pairs.specs.WeightedPairs.{scaledPairs, rootedPairs, exchangedPairs};
+ghost use Rattle.varcoef_magnus_graph_pairs.specs.WeightedPairs.{rootedPairs, exchangedPairs};
 use graph_pairs::kernel::row_sums_of_two;
-
-// The n pairs at `target` become the vector v at `source`, which lies before them, times the first and times the second roots, the pairs
-// at `roots`, which lie behind.
-pub fn scale_in(work: &mut [f64], n: usize, roots: usize, source: usize, target: usize)
-    requires { ⌜ (source + n ≤ target) × (target + 2 * n ≤ roots) × (roots + 2 * n ≤ length (now work)) ⌝ }
-    ensures { λ _. let w = now (work .entry) in
-        ⌜ now (work .exit) ≡ put target (scaledPairs n (part roots (2 * n) w) (part source n w)) w ⌝ }
-{
-    for i in 0..n {
-        let x = work[source + i];
-        let r = roots + 2 * i;
-        let r1 = work[r];
-        let r2 = work[r + 1];
-        let t = target + 2 * i;
-        work[t] = r1 * x;
-        work[t + 1] = r2 * x;
-    }
-}
 
 // The n pairs at `target` become a, the roots of the first sample times its product with the first of the scaled vectors, and b, those of
 // the second times its product with the second one; and the pairs at `scaled` r1 · b and r2 · a, which next meet the other sample's values.

@@ -23,7 +23,7 @@ ghost use Rattle.magnus.specs.Coefficients.{reciprocalFactorial};
 ghost use Rattle.magnus_graph_helpers.specs.Terms.{TermsAdded};
 ghost use Rattle.magnus_graph_step.specs.Omega4.{expOmega4};
 ghost use Rattle.varcoef_magnus_graph_taylor_term.specs.WeightedOmega4.{weightedOmega4};
-use magnus_graph_helpers::kernel::reciprocal_factorial;
+use magnus_graph_coefficients::kernel::reciprocal_factorial;
 use scratch::kernel::clear;
 use scratch::kernel::copy_within;
 use scratch::kernel::load;

@@ -21,7 +21,7 @@ ghost use Rattle.magnus_graph_helpers.specs.Terms.{TermAdded};
 ghost use Rattle.varcoef_magnus_graph_products.specs.WeightedProduct.{withProduct};
 ghost use Rattle.varcoef_magnus_graph_taylor_term.specs.WeightedOmega4.{weightedOmega4};
 use magnus_graph_helpers::kernel::omega_sum;
-use scratch_sums::kernel::add_scaled;
+use scratch_scaled_sums::kernel::add_scaled;
 use varcoef_magnus_graph_products::kernel::weighted_product_in;
 
 // The weighted product of the first sample with the vector at `source1`, to `target1`, and then that of the second sample

@@ -16,11 +16,11 @@ ghost use Rattle.graph_rows.specs.RowProduct.{rowProduct64};
 ghost use Rattle.magnus.specs.Coefficients.{reciprocalFactorial};
 ghost use Rattle.magnus_graph_helpers.specs.Terms.{TermAdded, TermsAdded};
 ghost use Rattle.varcoef_magnus_graph_taylor_term.specs.WeightedOmega4.{weightedOmega4};
+use magnus_graph_coefficients::kernel::reciprocal_factorial;
 use magnus_graph_helpers::kernel::omega_sum;
-use magnus_graph_helpers::kernel::reciprocal_factorial;
 use scratch::kernel::copy_within;
 use scratch_products::kernel::multiply;
-use scratch_sums::kernel::add_scaled;
+use scratch_scaled_sums::kernel::add_scaled;
 use varcoef_magnus_graph_products::kernel::rooted_product_in;
 
 // One term of the Taylor sum where both samples have the values vals and the roots at 6n: a is b, and c is d, so that two weighted products

@@ -26,11 +26,11 @@ ghost use Rattle.varcoef_magnus_graph_traj_step.specs.StepTaken.{StepTak
 use error::Checked;
 use graph_traj_samples::kernel::sample;
 use graph_traj_weights::kernel::sample_weights;
-use magnus_graph_helpers::kernel::reciprocal_factorial;
+use magnus_graph_coefficients::kernel::reciprocal_factorial;
 use square_roots::kernel::roots_in;
 use varcoef_magnus_graph::SQRT3_OVER_12_F64;
 use varcoef_magnus_graph_pairs::kernel::rooted_products_in;
-use varcoef_magnus_graph_pairs::kernel::scale_in;
+use varcoef_magnus_graph_scaled_pairs::kernel::scale_in;
 use varcoef_magnus_graph_term::kernel::rooted_term_in;
 
 // One term of the Taylor sum, by two walks over the pattern that serve both samples: of v, whose pairs at 4n are scaled by the roots, they

@@ -6,8 +6,8 @@ use native.Mathlib.Omega.{arith}
 use lib.ListN.{length}
 use borrow.Author.Needs.{needs}
 use Rattle.error.proofs.Checks.{refused-here, accepted-then}
+use Rattle.graph_counts.proofs.Sound.{size-accepted, row-start-count-accepted}
 use Rattle.graph_shape.specs.ShapeChecks.{shapeFault}
-use Rattle.graph_shape.proofs.Sound.{size-accepted, row-start-count-accepted}
 use Rattle.graph_shape.proofs.check_shape.Statement.{statement}
 use Rattle.graph_shape.proofs.check_shape.Tie as tie
 

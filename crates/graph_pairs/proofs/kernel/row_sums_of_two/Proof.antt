@@ -1,5 +1,6 @@
--- `graph_pairs::kernel::row_sums_of_two` meets its contract. The loop's invariant: first and second are the sums of the row's entries before
--- entry k, of the first sample with the first vector and of the second sample with the second one. Assumes nothing.
+-- `graph_pairs::kernel::row_sums_of_two` meets its contract. The loop's invariant: the sums are those of the row's entries before entry k, of the first
+-- sample with the first vector and of the second sample with the second one. A turn adds two entries; a last one may be left. Assumes
+-- nothing.
 use mathlib.Core.Path.{_≡_, sym, ap, _∙_}
 use Prim.Native.Nat.{_+_, _-_, _≤_, _<_}
 use native.Mathlib.Omega.{arith}
@@ -8,37 +9,30 @@ use lib.Ieee.{binary64}
 use Rattle.arithmetic.specs.Arithmetic.{ieee}
 use Rattle.arithmetic.specs.Product.{entries, rowSum}
 use Rattle.arithmetic.proofs.Product.{entries-none}
-use Rattle.graph_rows.proofs.RowEntries.{entry-stored, entry-column}
 use Rattle.graph_pairs.specs.Pairs.{firsts, seconds}
-use Rattle.graph_pairs.proofs.Pairs.{at-firsts, at-seconds, entry-added}
+use Rattle.graph_pairs.proofs.Pairs.{entry-here, with-entry, with-two-entries}
 use Rattle.graph_pairs.proofs.kernel.row_sums_of_two.Statement.{statement}
 use Rattle.graph_pairs.proofs.kernel.row_sums_of_two.Tie as tie
 
 abbrev Inv-loop : tie.InvT-loop
-Inv-loop row-ptr col-idx vals src n i first₀ second₀ k₀ k-end first second k =
+Inv-loop row-ptr col-idx vals src n i end k₀ sums₀ k sums =
     let m = length col-idx in
     (k₀ ≤ k)
-    × (k ≤ k-end)
-    × (first ≡ entries (ieee binary64) col-idx (firsts (ieee binary64) m vals) (firsts (ieee binary64) n src) k₀ k)
-    × (second ≡ entries (ieee binary64) col-idx (seconds (ieee binary64) m vals) (seconds (ieee binary64) n src) k₀ k)
+    × (k ≤ end)
+    × (sums .first ≡ entries (ieee binary64) col-idx (firsts (ieee binary64) m vals) (firsts (ieee binary64) n src) k₀ k)
+    × (sums .second ≡ entries (ieee binary64) col-idx (seconds (ieee binary64) m vals) (seconds (ieee binary64) n src) k₀ k)
 
 abbrev μ-loop : tie.MeasureT-loop
-μ-loop row-ptr col-idx vals src n i first₀ second₀ k₀ k-end first second k =
-    k-end - k
+μ-loop row-ptr col-idx vals src n i end k₀ sums₀ k sums = end - k
 
--- in a turn the entry is stored, and its column is a node
-stored : (c : tie.In-loop Inv-loop μ-loop)
-    → c .before .loop .k < length (c .before .before .before .before .args .col-idx .now)
-stored c =
-    let start = c .before .before .before .before in
-    entry-stored (start .pre .0 .rows) (start .args .i) _ (start .pre .1 .1) (c .loop-test .taken)
+add-end : tie.Need-add-end Inv-loop μ-loop
+add-end c = omega arith
 
-node : (c : tie.In-loop Inv-loop μ-loop)
-    → let start = c .before .before .before .before in
-    getD (start .args .col-idx .now) (c .before .loop .k) 0 < start .args .n
-node c =
-    let start = c .before .before .before .before in
-    entry-column (start .pre .0) (start .args .i) _ (start .pre .1 .1) (c .loop-test .taken)
+mul-end : tie.Need-mul-end Inv-loop μ-loop
+mul-end c = omega arith
+
+shared-slice-read-end : tie.Need-shared-slice-read-end Inv-loop μ-loop
+shared-slice-read-end c = omega arith
 
 mul-k : tie.Need-mul-k Inv-loop μ-loop
 mul-k c = omega arith
@@ -46,99 +40,78 @@ mul-k c = omega arith
 shared-slice-read-k : tie.Need-shared-slice-read-k Inv-loop μ-loop
 shared-slice-read-k c = omega arith
 
-add-k-end : tie.Need-add-k-end Inv-loop μ-loop
-add-k-end c = omega arith
-
-mul-k-end : tie.Need-mul-k-end Inv-loop μ-loop
-mul-k-end c = omega arith
-
-shared-slice-read-k-end : tie.Need-shared-slice-read-k-end Inv-loop μ-loop
-shared-slice-read-k-end c = omega arith
-
 loop-holds : tie.Need-loop-holds Inv-loop μ-loop
 loop-holds c =
-    let start = c .before .before in
+    let start = c .before .before .before .before .before .before in
     let rising = start .pre .0 .rows .rising (start .args .i) (start .pre .1 .1) in
     (omega arith, rising, sym (entries-none (ieee binary64) _ _ _ _), sym (entries-none (ieee binary64) _ _ _ _))
 
-mul-c : tie.Need-mul-c Inv-loop μ-loop
-mul-c c = omega (arith, stored (c))
+add-loop : tie.Need-add-loop Inv-loop μ-loop
+add-loop c =
+    let start = c .before .before .before .before .before .before .before in
+    omega (arith, start .pre .0 .rows .within (start .args .i + 1) (omega arith))
 
-shared-slice-read-c : tie.Need-shared-slice-read-c Inv-loop μ-loop
-shared-slice-read-c c = omega (arith, stored (c .before))
+with-entry-of-two-requires : tie.Need-with-entry-of-two-requires Inv-loop μ-loop
+with-entry-of-two-requires c κs =
+    let start = c .before .before .before .before .before .before .before .before in
+    let k = c .before .loop .k in
+    let here : k < getD (start .args .row-ptr .now) (start .args .i + 1) 0 = omega arith in
+    (start .pre .1 .0, entry-here (start .pre .0) (start .args .i) k (start .pre .1 .1) here)
 
-cast-c : tie.Need-cast-c Inv-loop μ-loop
-cast-c c = omega (arith, node (c .before))
+add-with-entry-of-two : tie.Need-add-with-entry-of-two Inv-loop μ-loop
+add-with-entry-of-two c =
+    let start = c .before .before .before .before .before .before .before .before .before in
+    omega (arith, start .pre .0 .rows .within (start .args .i + 1) (omega arith))
 
-mul-first : tie.Need-mul-first Inv-loop μ-loop
-mul-first c = omega (arith, stored (c .before))
-
-mul-first-2 : tie.Need-mul-first-2 Inv-loop μ-loop
-mul-first-2 c = omega (arith, stored (c .before))
-
-shared-slice-read-first : tie.Need-shared-slice-read-first Inv-loop μ-loop
-shared-slice-read-first c = omega (arith, stored (c .before .before))
-
-mul-first-3 : tie.Need-mul-first-3 Inv-loop μ-loop
-mul-first-3 c = omega (arith, node (c .before .before))
-
-mul-first-4 : tie.Need-mul-first-4 Inv-loop μ-loop
-mul-first-4 c = omega (arith, node (c .before .before))
-
-shared-slice-read-first-2 : tie.Need-shared-slice-read-first-2 Inv-loop μ-loop
-shared-slice-read-first-2 c = omega (arith, node (c .before .before .before))
-
-mul-second : tie.Need-mul-second Inv-loop μ-loop
-mul-second c = omega (arith, stored (c .before .before .before))
-
-add-second : tie.Need-add-second Inv-loop μ-loop
-add-second c = omega (arith, stored (c .before .before .before))
-
-mul-second-2 : tie.Need-mul-second-2 Inv-loop μ-loop
-mul-second-2 c = omega (arith, stored (c .before .before .before))
-
-shared-slice-read-second : tie.Need-shared-slice-read-second Inv-loop μ-loop
-shared-slice-read-second c = omega (arith, stored (c .before .before .before .before))
-
-mul-second-3 : tie.Need-mul-second-3 Inv-loop μ-loop
-mul-second-3 c = omega (arith, node (c .before .before .before .before))
-
-add-second-2 : tie.Need-add-second-2 Inv-loop μ-loop
-add-second-2 c = omega (arith, node (c .before .before .before .before))
-
-mul-second-4 : tie.Need-mul-second-4 Inv-loop μ-loop
-mul-second-4 c = omega (arith, node (c .before .before .before .before))
-
-shared-slice-read-second-2 : tie.Need-shared-slice-read-second-2 Inv-loop μ-loop
-shared-slice-read-second-2 c = omega (arith, node (c .before .before .before .before .before))
+with-entry-of-two-requires-2 : tie.Need-with-entry-of-two-requires-2 Inv-loop μ-loop
+with-entry-of-two-requires-2 c κs =
+    let start = c .before .before .before .before .before .before .before .before .before in
+    let k = c .before .before .loop .k + 1 in
+    let here : k < getD (start .args .row-ptr .now) (start .args .i + 1) 0 = omega arith in
+    (start .pre .1 .0, entry-here (start .pre .0) (start .args .i) k (start .pre .1 .1) here)
 
 add-k : tie.Need-add-k Inv-loop μ-loop
-add-k c = omega (arith, stored (c .before .before .before .before .before))
+add-k c =
+    let start = c .before .before .before .before .before .before .before .before .before .before in
+    omega (arith, start .pre .0 .rows .within (start .args .i + 1) (omega arith))
 
 loop-less : tie.Need-loop-less Inv-loop μ-loop
 loop-less c = omega arith
 
 loop-again : tie.Need-loop-again Inv-loop μ-loop
 loop-again c =
-    let args = c .before .before .before .before .before .before .before .before .before .args in
-    let vals = args .vals .now in
-    let src = args .src .now in
-    let loop = c .before .before .before .before .before .before .loop in
-    let entry = stored (c .before .before .before .before .before) in
-    let column = node (c .before .before .before .before .before) in (
+    let loop = c .before .before .before .loop in
+    let one = c .before .with-entry-of-two .ensures in
+    let two = c .with-entry-of-two2 .ensures in (
       omega arith,
       omega arith,
-      entry-added (ieee binary64) _ _ _ _ _ _ _ _ (loop .inv .0) (loop .inv .2) (sym (at-firsts (ieee binary64) _ vals _ entry))
-          (sym (at-firsts (ieee binary64) _ src _ column)),
-      entry-added (ieee binary64) _ _ _ _ _ _ _ _ (loop .inv .0) (loop .inv .3) (sym (at-seconds (ieee binary64) _ vals _ entry))
-          (sym (at-seconds (ieee binary64) _ src _ column)),
+      with-two-entries (ieee binary64) _ _ _ _ _ (loop .inv .0) (loop .inv .2) (one .0) (two .0),
+      with-two-entries (ieee binary64) _ _ _ _ _ (loop .inv .0) (loop .inv .3) (one .1) (two .1),
     )
+
+with-entry-of-two-requires-3 : tie.Need-with-entry-of-two-requires-3 Inv-loop μ-loop
+with-entry-of-two-requires-3 c κs =
+    let start = c .before .before .before .before .before .before .before .before .before in
+    let k = c .before .before .loop .k in
+    let here : k < getD (start .args .row-ptr .now) (start .args .i + 1) 0 = omega arith in
+    (start .pre .1 .0, entry-here (start .pre .0) (start .args .i) k (start .pre .1 .1) here)
 
 returns : tie.Need-returns Inv-loop μ-loop
 unfolding rowSum
 returns c =
-    let loop = c .before .loop in
-    let start = c .before .before .before .before in
+    let loop = c .before .before .before .loop in
+    let start = c .before .before .before .before .before .before .before .before .before .before in
+    let last : loop .k + 1 ≡ getD (start .args .row-ptr .now) (start .args .i + 1) 0 = omega arith in
+    let one = c .with-entry-of-two3 .ensures in (
+      with-entry (ieee binary64) _ _ _ _ _ (loop .inv .0) (loop .inv .2) (one .0) ∙ ap (entries (ieee binary64) _ _ _ _) last,
+      with-entry (ieee binary64) _ _ _ _ _ (loop .inv .0) (loop .inv .3) (one .1) ∙ ap (entries (ieee binary64) _ _ _ _) last,
+    )
+
+returns-2 : tie.Need-returns-2 Inv-loop μ-loop
+unfolding rowSum
+returns-2 c =
+    let loop = c .before .before .loop in
+    let start = c .before .before .before .before .before .before .before .before .before in
     let last : loop .k ≡ getD (start .args .row-ptr .now) (start .args .i + 1) 0 = omega arith in (
       loop .inv .2 ∙ ap (entries (ieee binary64) _ _ _ _) last,
       loop .inv .3 ∙ ap (entries (ieee binary64) _ _ _ _) last,
@@ -150,30 +123,19 @@ row-sums-of-two-spec =
     (tie.spec
     Inv-loop
     μ-loop
+    add-end
+    mul-end
+    shared-slice-read-end
     mul-k
     shared-slice-read-k
-    add-k-end
-    mul-k-end
-    shared-slice-read-k-end
     loop-holds
-    mul-c
-    shared-slice-read-c
-    cast-c
-    mul-first
-    mul-first-2
-    shared-slice-read-first
-    mul-first-3
-    mul-first-4
-    shared-slice-read-first-2
-    mul-second
-    add-second
-    mul-second-2
-    shared-slice-read-second
-    mul-second-3
-    add-second-2
-    mul-second-4
-    shared-slice-read-second-2
+    add-loop
+    with-entry-of-two-requires
+    add-with-entry-of-two
+    with-entry-of-two-requires-2
     add-k
     loop-less
     loop-again
-    returns)
+    with-entry-of-two-requires-3
+    returns
+    returns-2)

@@ -71,11 +71,8 @@ mul-work-2 c = omega arith
 slice-write-work-2 : tie.Need-slice-write-work-2 Inv-loop μ-loop
 slice-write-work-2 c = simp length-set (omega arith)
 
-is-finite-requires : tie.Need-is-finite-requires Inv-loop μ-loop
-is-finite-requires c κs = search needs
-
-is-finite-requires-2 : tie.Need-is-finite-requires-2 Inv-loop μ-loop
-is-finite-requires-2 c κs = search needs
+both-finite-requires : tie.Need-both-finite-requires Inv-loop μ-loop
+both-finite-requires c κs = search needs
 
 add-i : tie.Need-add-i Inv-loop μ-loop
 add-i c = omega arith
@@ -85,15 +82,15 @@ loop-less c = omega arith
 
 loop-again : tie.Need-loop-again Inv-loop μ-loop
 loop-again c =
-    let args = c .before .before .before .before .before .before .before .before .before .before .before .args in
-    let head = c .before .before .before .before .before .before .before in
-    let turn = c .before .before .before .before .before .before .loop-test .taken in
+    let args = c .before .before .before .before .before .before .before .before .before .before .args in
+    let head = c .before .before .before .before .before .before in
+    let turn = c .before .before .before .before .before .loop-test .taken in
     let starts = args .starts .now in
     let ends = args .ends .now in
     sampling-next _ _ _ _ _ _ (head .loop .inv) turn
-    (value-is (args .k) (args .m) (args .fraction1) starts ends (head .loop .i) turn (c .before .before .before .law-value .ensures))
-    (value-is (args .k) (args .m) (args .fraction2) starts ends (head .loop .i) turn (c .before .before .law-value2 .ensures))
-    (c .before .is-finite .ensures) (c .is-finite2 .ensures)
+    (value-is (args .k) (args .m) (args .fraction1) starts ends (head .loop .i) turn (c .before .before .law-value .ensures))
+    (value-is (args .k) (args .m) (args .fraction2) starts ends (head .loop .i) turn (c .before .law-value2 .ensures))
+    (c .both-finite .ensures)
 
 same-length : tie.Need-same-length Inv-loop μ-loop
 same-length c = c .before .loop .inv .written .length-kept
@@ -125,8 +122,7 @@ sample-pairs-spec =
     add-work
     mul-work-2
     slice-write-work-2
-    is-finite-requires
-    is-finite-requires-2
+    both-finite-requires
     add-i
     loop-less
     loop-again

@@ -1,5 +1,6 @@
 -- `weight_pairs` meets its contract: a turn writes the next pair of weights and tests both. Assumes nothing.
-use mathlib.Core.Bool.{not}
+use mathlib.Core.Path.{ap₂}
+use mathlib.Core.Bool.{not, _&&_}
 use Prim.Native.Nat.{_-_}
 use native.Mathlib.Omega.{arith}
 use lib.ListN.{length, length-set}
@@ -75,7 +76,7 @@ loop-again c =
     let head = c .before .before .before .before .before .before .before in
     sampling-next _ _ _ _ _ _ (head .loop .inv) (c .before .before .before .before .before .before .loop-test .taken)
     (c .before .before .before .law-value .ensures) (c .before .before .law-value2 .ensures)
-    (c .before .is-positive .ensures) (c .is-positive2 .ensures)
+    (ap₂ _&&_ (c .before .is-positive .ensures) (c .is-positive2 .ensures))
 
 same-length : tie.Need-same-length Inv-loop μ-loop
 same-length c = c .before .loop .inv .written .length-kept

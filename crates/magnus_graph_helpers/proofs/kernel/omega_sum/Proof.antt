@@ -2,7 +2,7 @@
 -- the target, none of which is written yet. Assumes nothing.
 use Prim.Native.Nat.{_-_}
 use native.Mathlib.Omega.{arith}
-use lib.Ieee.{binary64, nan}
+use lib.Ieee.{binary64, add, sub, mul, nan}
 use Rattle.arithmetic.specs.Arithmetic.{ieee}
 use Rattle.scratch.specs.Parts.{part}
 use Rattle.scratch.proofs.Writing.{fewer-turns, Written, written-none, written-next, written-all, read-after, read-here}
@@ -84,7 +84,10 @@ loop-again c =
     let b-read = read-after written (args .b) (start .pre .1 .1) turn nan in
     let c-read = read-after written (args .c) (start .pre .1 .2) turn nan in
     let d-read = read-here written turn nan in
-    written-next written turn _ _ (omega arith) (cc (a-read, b-read, c-read, d-read))
+    written-next written turn _ _ (omega arith)
+    (λ k.
+    add binary64 (mul binary64 (args .scale) (add binary64 (a-read k) (b-read k)))
+    (mul binary64 (args .comm-scale) (sub binary64 (c-read k) (d-read k))))
 
 same-length : tie.Need-same-length Inv-loop μ-loop
 same-length c = c .before .loop .inv .length-kept

@@ -1,87 +1,64 @@
--- `roots_in` meets its contract: what the first call writes is the roots where every test passes, and else is written over. Assumes nothing.
-use borrow.Author.Needs.{needs}
-use Rattle.square_roots.proofs.Roots.{roots-there, roots-over}
+-- `roots_in` meets its contract: a turn writes the roots of the next block, whose values no write has reached. Assumes nothing.
+use Prim.Native.Nat.{_-_}
+use native.Mathlib.Omega.{arith}
+use lib.Ieee.{binary64}
+use Rattle.ieee_square_root.specs.SquareRoot.{squareRoot}
+use Rattle.square_roots.proofs.Blocks.{Imaged, imaged-none, imaged-next, imaged-all}
 use Rattle.square_roots.proofs.kernel.roots_in.Statement.{statement}
 use Rattle.square_roots.proofs.kernel.roots_in.Tie as tie
 
-estimate-within-requires : tie.Need-estimate-within-requires
-estimate-within-requires c κs = search needs
+abbrev Inv-loop : tie.InvT-loop
+Inv-loop work₀ count source target done₀ work done = Imaged (squareRoot binary64) work₀ work₀ count source target done work
 
-add-source-end : tie.Need-add-source-end
-add-source-end c = search needs
+abbrev μ-loop : tie.MeasureT-loop
+μ-loop work₀ count source target done₀ work done = count - done
 
-add-target-end : tie.Need-add-target-end
-add-target-end c = search needs
+loop-holds : tie.Need-loop-holds Inv-loop μ-loop
+loop-holds c = imaged-none _ _ _ _ _ _
 
-mul-all-roots : tie.Need-mul-all-roots
-mul-all-roots c = search needs
+block-end-requires : tie.Need-block-end-requires Inv-loop μ-loop
+block-end-requires c κs = omega arith
 
-sub-all-roots : tie.Need-sub-all-roots
-sub-all-roots c = search needs
+sub-block-in : tie.Need-sub-block-in Inv-loop μ-loop
+sub-block-in c = omega arith
 
-part-all-roots-start : tie.Need-part-all-roots-start
-part-all-roots-start c = search needs
+add-block-in : tie.Need-add-block-in Inv-loop μ-loop
+add-block-in c = omega arith
 
-part-all-roots-end : tie.Need-part-all-roots-end
-part-all-roots-end c = search needs
+add-block-in-2 : tie.Need-add-block-in-2 Inv-loop μ-loop
+add-block-in-2 c = omega arith
 
-mul-all-roots-2 : tie.Need-mul-all-roots-2
-mul-all-roots-2 c = search needs
+block-in-requires : tie.Need-block-in-requires Inv-loop μ-loop
+block-in-requires c κs = omega arith
 
-sub-all-roots-2 : tie.Need-sub-all-roots-2
-sub-all-roots-2 c = search needs
+loop-less : tie.Need-loop-less Inv-loop μ-loop
+loop-less c = omega arith
 
-part-all-roots-start-2 : tie.Need-part-all-roots-start-2
-part-all-roots-start-2 c = search needs
+loop-again : tie.Need-loop-again Inv-loop μ-loop
+loop-again c =
+    let start = c .before .before .before .before .before .before .before .before in
+    let head = c .before .before .before .before .before .before in
+    imaged-next _ (head .loop .inv) _ (omega arith) (omega arith) (start .pre .0) (start .pre .2) (c .before .before .block-in .ensures)
 
-part-all-roots-end-2 : tie.Need-part-all-roots-end-2
-part-all-roots-end-2 c = search needs
+same-length : tie.Need-same-length Inv-loop μ-loop
+same-length c = c .before .loop .inv .length-kept
 
-all-roots-requires : tie.Need-all-roots-requires
-all-roots-requires c κs = search needs
-
-same-length : tie.Need-same-length
-same-length c = search needs
-
-returns : tie.Need-returns
-returns c =
-    let tested = c .before in
-    let estimated = tested .before .before .before .before .before .before in
-    let start = estimated .before .before .before in
-    roots-there (start .args .source) (estimated .estimate-within .ensures) (start .pre .0) (start .pre .1) (start .pre .2)
-    (tested .all-roots .ensures (c .if1 .taken))
-
-settle-within-requires : tie.Need-settle-within-requires
-settle-within-requires c κs = search needs
-
-same-length-2 : tie.Need-same-length-2
-same-length-2 c = search needs
-
-returns-2 : tie.Need-returns-2
-returns-2 c =
-    let settled = c .before .before in
-    let estimated = settled .before .before .before .before .before .before .before .before .before in
-    let start = estimated .before .before .before in
-    roots-over (start .args .source) (estimated .estimate-within .ensures) (start .pre .0) (start .pre .2) (settled .settle-within .ensures)
+returns : tie.Need-returns Inv-loop μ-loop
+returns c = imaged-all _ (c .before .loop .inv) (omega arith)
 
 pub roots-in-spec : {M : Type 1} → statement M
 roots-in-spec =
     tie.close
     (tie.spec
-    estimate-within-requires
-    add-source-end
-    add-target-end
-    mul-all-roots
-    sub-all-roots
-    part-all-roots-start
-    part-all-roots-end
-    mul-all-roots-2
-    sub-all-roots-2
-    part-all-roots-start-2
-    part-all-roots-end-2
-    all-roots-requires
+    Inv-loop
+    μ-loop
+    loop-holds
+    block-end-requires
+    sub-block-in
+    add-block-in
+    add-block-in-2
+    block-in-requires
+    loop-less
+    loop-again
     same-length
-    returns
-    settle-within-requires
-    same-length-2
-    returns-2)
+    returns)
