@@ -23,7 +23,7 @@ pub fn row_sum(row_ptr: &[usize], col_idx: &[u32], vals: &[f64], src: &[f64], i:
     acc
 }
 
-// out becomes the product with src (`apply_into_slice` of the Rust).
+// out becomes the product with src (`apply_into_slice` of the Rust). A turn does two rows.
 pub fn product(row_ptr: &[usize], col_idx: &[u32], vals: &[f64], src: &[f64], out: &mut [f64])
     requires { ⌜ Pattern (length (now src)) (now «row_ptr») (now «col_idx») ⌝ }
     requires { ⌜ length (now vals) ≡ length (now «col_idx») ⌝ }
@@ -32,7 +32,16 @@ pub fn product(row_ptr: &[usize], col_idx: &[u32], vals: &[f64], src: &[f64], ou
         ⌜ now (out .exit)
         ≡ rowProduct64 (length v) (now («row_ptr» .entry)) (now («col_idx» .entry)) (now (vals .entry)) v ⌝ }
 {
-    for i in 0..src.len() {
+    let n = src.len();
+    let mut i = 0;
+    while i + 1 < n {
+        let acc = row_sum(row_ptr, col_idx, vals, src, i);
+        let next = row_sum(row_ptr, col_idx, vals, src, i + 1);
+        out[i] = acc;
+        out[i + 1] = next;
+        i = i + 2;
+    }
+    if i < n {
         out[i] = row_sum(row_ptr, col_idx, vals, src, i);
     }
 }
