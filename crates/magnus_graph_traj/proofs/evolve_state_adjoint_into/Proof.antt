@@ -1,7 +1,7 @@
 -- `evolve_state_adjoint_into` meets its contract: it makes the checks of `adjointRunFault`; where they accept and there are steps, the
 -- signal is loaded into the work slice, the steps are taken there, what is held after the last is stored, and the needed part of the
 -- work slice is cleared. With no steps the signal is copied. Demand 3 follows from the definitions. Assumes nothing.
-use mathlib.Core.Path.{sym, ap, _∙_, subst}
+use mathlib.Core.Path.{_≡_, sym, ap, _∙_, subst}
 use Prim.Native.Nat.{ℕ, _<_}
 use lib.Dec.{T}
 use Rattle.scratch.specs.Parts.{part}
@@ -30,6 +30,16 @@ lent c =
       output = a .dst .now;
       work = a .work .now;
     }
+
+-- how many steps there are, where the code takes none and where it takes some
+abbrev steps : tie.After-enum-told → ℕ
+steps c = c .before .before .before .before .before .before .before .before .before .before .before .before .args .steps
+
+no-steps : (c : tie.Then1) → steps (c .before) ≡ 0
+no-steps c = c .if1 .taken
+
+some-steps : (c : tie.Else1) → 0 < steps (c .before)
+some-steps c = omega (arith, c .if1 .left)
 
 check-adjoint-run-requires : tie.Need-check-adjoint-run-requires
 check-adjoint-run-requires c κs = search needs
@@ -61,6 +71,7 @@ returns-2 : tie.Need-returns-2
 returns-2 c =
     let stored = c .before .before in
     let none = stored .before .before in
+    let zero = no-steps none in
     let told = none .before in
     let made = told .before .before in
     let ends = made .before .before .before .before .before in
@@ -71,7 +82,7 @@ returns-2 c =
     let plain = adjoint-plain (start .args .tau) (lent start) (starts .shared-slice-known4 .given) (ends .shared-slice-known5 .given)
     (subst T (sym (start .good .1 .1 .1 .1 .1 .1 .1 .1 .0 .1)) tt) in
     let lengths = adjoint-lengths (start .args .tau) (lent start) check yes in
-    run-copied (adjointOf (start .args .tau) (lent start)) check yes lengths plain (adjoint-none (start .args .steps) (none .if1 .taken))
+    run-copied (adjointOf (start .args .tau) (lent start)) check yes lengths plain (adjoint-none (start .args .steps) zero)
     (stored .store .ensures
     ∙ ap (λ (n : ℕ). part 0 n (start .args .src .now)) (lengths .of-output ∙ sym (lengths .of-signal))
     ∙ part-whole (start .args .src .now))
@@ -103,10 +114,10 @@ add-need c =
 load-requires : tie.Need-load-requires
 load-requires c κs =
     let left = c .before in
+    let some = some-steps left in
     let told = left .before in
     let made = told .before .before in
     let start = made .before .before .before .before .before .before .before .before .before .before in
-    let some : 0 < start .args .steps = omega (arith, left .if1 .left) in
     let ok = adjoint-accepted (start .args .tau) (lent start) (made .check-adjoint-run .ensures) (told .enum-told .given .1) in
     omega (arith, ok .signals .signal-length, ok .room some)
 
@@ -114,10 +125,10 @@ run-adjoint-steps-requires : tie.Need-run-adjoint-steps-requires
 run-adjoint-steps-requires c κs =
     let loaded = c .before .before .before in
     let left = loaded .before .before in
+    let some = some-steps left in
     let told = left .before in
     let made = told .before .before in
     let start = made .before .before .before .before .before .before .before .before .before .before in
-    let some : 0 < start .args .steps = omega (arith, left .if1 .left) in
     let ok = adjoint-accepted (start .args .tau) (lent start) (made .check-adjoint-run .ensures) (told .enum-told .given .1) in
     (ok .along .accepted, (ok .stepping some .few-steps, omega (arith, ok .room some, loaded .load .kept .0)))
 
@@ -132,10 +143,10 @@ clear-requires c κs =
     let taken = c .before .before .before .before .before in
     let loaded = taken .before .before .before .before in
     let left = loaded .before .before in
+    let some = some-steps left in
     let told = left .before in
     let made = told .before .before in
     let start = made .before .before .before .before .before .before .before .before .before .before in
-    let some : 0 < start .args .steps = omega (arith, left .if1 .left) in
     let ok = adjoint-accepted (start .args .tau) (lent start) (made .check-adjoint-run .ensures) (told .enum-told .given .1) in
     omega (arith, ok .room some, loaded .load .kept .0, taken .run-adjoint-steps .ensures .length-kept)
 
@@ -149,12 +160,12 @@ returns-3 c =
     let taken = stopped .before .before .before .before in
     let loaded = taken .before .before .before .before in
     let left = loaded .before .before in
+    let some = some-steps left in
     let told = left .before in
     let made = told .before .before in
     let ends = made .before .before .before .before .before in
     let starts = ends .before in
     let start = starts .before .before .before .before in
-    let some : 0 < start .args .steps = omega (arith, left .if1 .left) in
     let check = made .check-adjoint-run .ensures in
     let yes = told .enum-told .given .1 in
     let plain = adjoint-plain (start .args .tau) (lent start) (starts .shared-slice-known4 .given) (ends .shared-slice-known5 .given)
@@ -169,10 +180,10 @@ store-requires-2 c κs =
     let taken = c .before .before .before .before .before .before in
     let loaded = taken .before .before .before .before in
     let left = loaded .before .before in
+    let some = some-steps left in
     let told = left .before in
     let made = told .before .before in
     let start = made .before .before .before .before .before .before .before .before .before .before in
-    let some : 0 < start .args .steps = omega (arith, left .if1 .left) in
     let ok = adjoint-accepted (start .args .tau) (lent start) (made .check-adjoint-run .ensures) (told .enum-told .given .1) in
     omega (arith, ok .signals .output-length, ok .room some, loaded .load .kept .0, taken .run-adjoint-steps .ensures .length-kept)
 
@@ -181,10 +192,10 @@ clear-requires-2 c κs =
     let taken = c .before .before .before .before .before .before .before .before .before .before in
     let loaded = taken .before .before .before .before in
     let left = loaded .before .before in
+    let some = some-steps left in
     let told = left .before in
     let made = told .before .before in
     let start = made .before .before .before .before .before .before .before .before .before .before in
-    let some : 0 < start .args .steps = omega (arith, left .if1 .left) in
     let ok = adjoint-accepted (start .args .tau) (lent start) (made .check-adjoint-run .ensures) (told .enum-told .given .1) in
     omega (arith, ok .room some, loaded .load .kept .0, taken .run-adjoint-steps .ensures .length-kept)
 
@@ -202,12 +213,12 @@ returns-4 c =
     let taken = went .before .before .before .before in
     let loaded = taken .before .before .before .before in
     let left = loaded .before .before in
+    let some = some-steps left in
     let told = left .before in
     let made = told .before .before in
     let ends = made .before .before .before .before .before in
     let starts = ends .before in
     let start = starts .before .before .before .before in
-    let some : 0 < start .args .steps = omega (arith, left .if1 .left) in
     let check = made .check-adjoint-run .ensures in
     let yes = told .enum-told .given .1 in
     let plain = adjoint-plain (start .args .tau) (lent start) (starts .shared-slice-known4 .given) (ends .shared-slice-known5 .given)

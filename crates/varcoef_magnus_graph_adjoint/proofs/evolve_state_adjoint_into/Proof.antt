@@ -49,6 +49,16 @@ run-lengths : (start : tie.Start)
 run-lengths start ok =
     record { of-signal = ok .signals .signal-length; of-output = ok .signals .output-length; within = omega arith }
 
+-- how many steps there are, where the code takes none and where it takes some
+abbrev steps : tie.After-enum-told → ℕ
+steps c = c .before .before .before .before .before .before .before .before .before .before .before .before .before .before .args .steps
+
+no-steps : (c : tie.Then1) → steps (c .before) ≡ 0
+no-steps c = c .if1 .taken
+
+some-steps : (c : tie.Else1) → 0 < steps (c .before)
+some-steps c = omega (arith, c .if1 .left)
+
 check-weighted-adjoint-run-requires : tie.Need-check-weighted-adjoint-run-requires
 check-weighted-adjoint-run-requires c κs = search needs
 
@@ -79,6 +89,7 @@ returns-2 : tie.Need-returns-2
 returns-2 c =
     let stored = c .before .before in
     let none = stored .before .before in
+    let zero = no-steps none in
     let told = none .before in
     let made = told .before .before in
     let a2 = made .before .before .before .before in
@@ -92,7 +103,7 @@ returns-2 c =
     run-copied (lent start) (made .check-weighted-adjoint-run .ensures) (told .enum-told .given .1) (run-lengths start ok)
     (steps-plain t (args .a-starts .now) (args .a-ends .now) (adjointCourse (args .tau) (args .steps)) adjoint (x1 .shared-slice-known4 .given)
     (x2 .shared-slice-known5 .given) (a1 .shared-slice-known7 .given) (a2 .shared-slice-known8 .given)
-    (λ s. subst T (sym (start .good .1 .1 .1 .1 .1 .1 .1 .1 .0 .1)) tt)) (adjoint-none (args .steps) (none .if1 .taken))
+    (λ s. subst T (sym (start .good .1 .1 .1 .1 .1 .1 .1 .1 .0 .1)) tt)) (adjoint-none (args .steps) zero)
     (stored .store .ensures
     ∙ ap (λ (n : ℕ). part 0 n (args .src .now)) (ok .signals .output-length ∙ sym (ok .signals .signal-length))
     ∙ part-whole (args .src .now))
@@ -124,10 +135,10 @@ add-need c =
 load-requires : tie.Need-load-requires
 load-requires c κs =
     let left = c .before in
+    let some = some-steps left in
     let told = left .before in
     let made = told .before .before in
     let start = made .before .before .before .before .before .before .before .before .before .before .before .before in
-    let some : 0 < start .args .steps = omega (arith, left .if1 .left) in
     let ok = accepted-run start (made .check-weighted-adjoint-run .ensures) (told .enum-told .given .1) in
     omega (arith, ok .signals .signal-length, ok .room some)
 
@@ -135,10 +146,10 @@ run-steps-requires : tie.Need-run-steps-requires
 run-steps-requires c κs =
     let loaded = c .before .before .before in
     let left = loaded .before .before in
+    let some = some-steps left in
     let told = left .before in
     let made = told .before .before in
     let start = made .before .before .before .before .before .before .before .before .before .before .before .before in
-    let some : 0 < start .args .steps = omega (arith, left .if1 .left) in
     let ok = accepted-run start (made .check-weighted-adjoint-run .ensures) (told .enum-told .given .1) in
     (ok .along, (ok .weights some, (some, ok .stepping some .few-steps, omega (arith, ok .room some, loaded .load .kept .0))))
 
@@ -153,10 +164,10 @@ clear-requires c κs =
     let taken = c .before .before .before .before .before in
     let loaded = taken .before .before .before .before in
     let left = loaded .before .before in
+    let some = some-steps left in
     let told = left .before in
     let made = told .before .before in
     let start = made .before .before .before .before .before .before .before .before .before .before .before .before in
-    let some : 0 < start .args .steps = omega (arith, left .if1 .left) in
     let ok = accepted-run start (made .check-weighted-adjoint-run .ensures) (told .enum-told .given .1) in
     omega (arith, ok .room some, loaded .load .kept .0, taken .run-steps .ensures .length-kept)
 
@@ -170,6 +181,7 @@ returns-3 c =
     let taken = stopped .before .before .before .before in
     let loaded = taken .before .before .before .before in
     let left = loaded .before .before in
+    let some = some-steps left in
     let told = left .before in
     let made = told .before .before in
     let a2 = made .before .before .before .before in
@@ -179,7 +191,6 @@ returns-3 c =
     let start = x1 .before .before .before .before in
     let args = start .args in
     let t = along start in
-    let some : 0 < start .args .steps = omega (arith, left .if1 .left) in
     let ok = accepted-run start (made .check-weighted-adjoint-run .ensures) (told .enum-told .given .1) in
     run-stopped (lent start) (made .check-weighted-adjoint-run .ensures) (told .enum-told .given .1) (run-lengths start ok)
     (steps-plain t (args .a-starts .now) (args .a-ends .now) (adjointCourse (args .tau) (args .steps)) adjoint (x1 .shared-slice-known4 .given)
@@ -192,10 +203,10 @@ store-requires-2 c κs =
     let taken = c .before .before .before .before .before .before in
     let loaded = taken .before .before .before .before in
     let left = loaded .before .before in
+    let some = some-steps left in
     let told = left .before in
     let made = told .before .before in
     let start = made .before .before .before .before .before .before .before .before .before .before .before .before in
-    let some : 0 < start .args .steps = omega (arith, left .if1 .left) in
     let ok = accepted-run start (made .check-weighted-adjoint-run .ensures) (told .enum-told .given .1) in
     omega (arith, ok .signals .output-length, ok .room some, loaded .load .kept .0, taken .run-steps .ensures .length-kept)
 
@@ -204,10 +215,10 @@ clear-requires-2 c κs =
     let taken = c .before .before .before .before .before .before .before .before .before .before in
     let loaded = taken .before .before .before .before in
     let left = loaded .before .before in
+    let some = some-steps left in
     let told = left .before in
     let made = told .before .before in
     let start = made .before .before .before .before .before .before .before .before .before .before .before .before in
-    let some : 0 < start .args .steps = omega (arith, left .if1 .left) in
     let ok = accepted-run start (made .check-weighted-adjoint-run .ensures) (told .enum-told .given .1) in
     omega (arith, ok .room some, loaded .load .kept .0, taken .run-steps .ensures .length-kept)
 
@@ -225,6 +236,7 @@ returns-4 c =
     let taken = went .before .before .before .before in
     let loaded = taken .before .before .before .before in
     let left = loaded .before .before in
+    let some = some-steps left in
     let told = left .before in
     let made = told .before .before in
     let a2 = made .before .before .before .before in
@@ -234,7 +246,6 @@ returns-4 c =
     let start = x1 .before .before .before .before in
     let args = start .args in
     let t = along start in
-    let some : 0 < start .args .steps = omega (arith, left .if1 .left) in
     let ok = accepted-run start (made .check-weighted-adjoint-run .ensures) (told .enum-told .given .1) in
     run-done (lent start) (made .check-weighted-adjoint-run .ensures) (told .enum-told .given .1) (run-lengths start ok)
     (steps-plain t (args .a-starts .now) (args .a-ends .now) (adjointCourse (args .tau) (args .steps)) adjoint (x1 .shared-slice-known4 .given)

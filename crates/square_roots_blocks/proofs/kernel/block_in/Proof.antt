@@ -1,8 +1,8 @@
 -- `block_in` meets its contract: what the first call writes is the roots where every test passes, and else is written over. Assumes nothing.
 use borrow.Author.Needs.{needs}
-use Rattle.square_roots.proofs.Roots.{roots-there, roots-over}
-use Rattle.square_roots.proofs.kernel.block_in.Statement.{statement}
-use Rattle.square_roots.proofs.kernel.block_in.Tie as tie
+use Rattle.square_roots_blocks.proofs.Roots.{roots-there, roots-over}
+use Rattle.square_roots_blocks.proofs.kernel.block_in.Statement.{statement}
+use Rattle.square_roots_blocks.proofs.kernel.block_in.Tie as tie
 
 estimate-within-requires : tie.Need-estimate-within-requires
 estimate-within-requires c κs = search needs

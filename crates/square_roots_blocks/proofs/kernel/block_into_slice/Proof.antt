@@ -1,8 +1,8 @@
 -- `block_into_slice` meets its contract: what the first call writes is the roots where every test passes, and else `settle_into_slice` gives
 -- the roots from any guesses. Assumes nothing.
 use borrow.Author.Needs.{needs}
-use Rattle.square_roots.proofs.kernel.block_into_slice.Statement.{statement}
-use Rattle.square_roots.proofs.kernel.block_into_slice.Tie as tie
+use Rattle.square_roots_blocks.proofs.kernel.block_into_slice.Statement.{statement}
+use Rattle.square_roots_blocks.proofs.kernel.block_into_slice.Tie as tie
 
 estimate-into-slice-requires : tie.Need-estimate-into-slice-requires
 estimate-into-slice-requires c κs = search needs
