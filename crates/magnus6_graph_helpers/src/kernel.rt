@@ -1,7 +1,7 @@
 // The step of order 6 (01, part 9) for callers that have checked its arguments. L1, L2 and L3 are the products with the three
 // samples. The step's vectors of n places lie one after the other in the work slice: at 0 the sum so far, at first the
 // signal and at last the answer; at n v, the signal and then its images under Ω; from 2n on those of the crate
-// magnus6_graph_parts (src/kernel.rt).
+// magnus6_graph_parts (src/kernel.rt). Whether the first and the third sample have one pattern is found out once a step.
 ghost use mathlib.Core.Path.{_≡_};
 ghost use Prim.Native.Nat.{_*_, _≤_};
 ghost use lib.ListN.{length};
@@ -10,11 +10,13 @@ ghost use Rattle.arithmetic.specs.Arithmetic.{ieee};
 ghost use Rattle.scratch.specs.Parts.{put, zeros};
 ghost use Rattle.graph_checks.specs.Pattern.{ValuedPattern};
 ghost use Rattle.graph_rows.specs.RowProduct.{rowProduct64};
+ghost use Rattle.graph_two_products.specs.SharedPattern.{SharedPattern};
 ghost use Rattle.magnus.specs.Omega6.{constants6, omega6};
 ghost use Rattle.magnus.specs.OperatorArithmetic.{onVectors};
 ghost use Rattle.magnus.specs.Coefficients.{reciprocalFactorial};
 ghost use Rattle.magnus_graph_helpers.specs.Terms.{TermsAdded};
 ghost use Rattle.magnus6_graph_helpers.specs.Omega6Step.{expOmega6};
+use graph_same_pattern::same_pattern;
 use magnus_graph_coefficients::kernel::reciprocal_factorial;
 use magnus6_graph_term::kernel::taylor_term6;
 use scratch::kernel::clear;
@@ -33,13 +35,15 @@ fn taylor6(
     row_ptr3: &[usize],
     col_idx3: &[u32],
     vals3: &[f64],
+    shared: bool,
     tau: f64,
     work: &mut [f64],
     n: usize,
 )
     requires { ⌜ ValuedPattern n (now «row_ptr1») (now «col_idx1») (now vals1) ⌝ }
     requires { ⌜ ValuedPattern n (now «row_ptr2») (now «col_idx2») (now vals2) ⌝ }
-    requires { ⌜ ValuedPattern n (now «row_ptr3») (now «col_idx3») (now vals3) ⌝ }
+    requires { ⌜ ValuedPattern n (now «row_ptr3») (now «col_idx3») (now vals3)
+        × SharedPattern shared (now «row_ptr1») (now «col_idx1») (now «row_ptr3») (now «col_idx3») ⌝ }
     requires { ⌜ 22 * n ≤ length (now work) ⌝ }
     ensures { λ _. let A = ieee binary64 in
         let L1 = rowProduct64 n (now («row_ptr1» .entry)) (now («col_idx1» .entry)) (now (vals1 .entry)) in
@@ -61,6 +65,7 @@ fn taylor6(
             row_ptr3,
             col_idx3,
             vals3,
+            shared,
             tau,
             coefficient,
             work,
@@ -98,6 +103,7 @@ pub fn step6(
         × (now (work .exit) ≡ put 0 (zeros (22 * n)) (now (work .entry))) ⌝ }
 {
     let n = src.len();
+    let shared = same_pattern(row_ptr1, col_idx1, row_ptr3, col_idx3);
     load(work, 0, src);
     taylor6(
         row_ptr1,
@@ -109,6 +115,7 @@ pub fn step6(
         row_ptr3,
         col_idx3,
         vals3,
+        shared,
         tau,
         work,
         n,

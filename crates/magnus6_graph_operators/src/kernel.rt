@@ -1,6 +1,6 @@
 // The two operators of the last commutator of order 6 at a vector, and what is formed of v itself (01, part 9; `apply_omega6` of the
-// Rust), for callers that have checked their arguments. Where a vector lies, the table in src/kernel.rt of the crate
-// magnus6_graph_parts tells.
+// Rust), for callers that have checked their arguments. Where a vector lies, and what `shared` says, src/kernel.rt of the
+// crate magnus6_graph_parts tells.
 ghost use mathlib.Core.Path.{_≡_};
 ghost use Prim.Native.Nat.{_+_, _*_, _≤_};
 ghost use lib.ListN.{length};
@@ -9,6 +9,7 @@ ghost use Rattle.arithmetic.specs.Arithmetic.{ieee};
 ghost use Rattle.scratch.specs.Parts.{part};
 ghost use Rattle.graph_checks.specs.Pattern.{ValuedPattern};
 ghost use Rattle.graph_rows.specs.RowProduct.{rowProduct64};
+ghost use Rattle.graph_two_products.specs.SharedPattern.{SharedPattern};
 ghost use Rattle.magnus.specs.Omega6.{constants6};
 ghost use Rattle.magnus6_graph_parts.specs.Omega6Parts.{LopFormed, RopFormed, AtVFormed};
 use magnus6_graph_c1::kernel::form_c1;
@@ -34,6 +35,7 @@ pub fn form_lop(
     row_ptr3: &[usize],
     col_idx3: &[u32],
     vals3: &[f64],
+    shared: bool,
     tau: f64,
     work: &mut [f64],
     n: usize,
@@ -41,7 +43,8 @@ pub fn form_lop(
 )
     requires { ⌜ ValuedPattern n (now «row_ptr1») (now «col_idx1») (now vals1) ⌝ }
     requires { ⌜ ValuedPattern n (now «row_ptr2») (now «col_idx2») (now vals2) ⌝ }
-    requires { ⌜ ValuedPattern n (now «row_ptr3») (now «col_idx3») (now vals3) ⌝ }
+    requires { ⌜ ValuedPattern n (now «row_ptr3») (now «col_idx3») (now vals3)
+        × SharedPattern shared (now «row_ptr1») (now «col_idx1») (now «row_ptr3») (now «col_idx3») ⌝ }
     requires { ⌜ (22 * n ≤ length (now work)) × (x + n ≤ 5 * n) ⌝ }
     ensures { λ _. let w = now (work .entry) in
         let L1 = rowProduct64 n (now («row_ptr1» .entry)) (now («col_idx1» .entry)) (now (vals1 .entry)) in
@@ -59,6 +62,7 @@ pub fn form_lop(
         row_ptr3,
         col_idx3,
         vals3,
+        shared,
         tau,
         work,
         n,
@@ -79,6 +83,7 @@ pub fn form_rop(
     row_ptr3: &[usize],
     col_idx3: &[u32],
     vals3: &[f64],
+    shared: bool,
     tau: f64,
     work: &mut [f64],
     n: usize,
@@ -86,7 +91,8 @@ pub fn form_rop(
 )
     requires { ⌜ ValuedPattern n (now «row_ptr1») (now «col_idx1») (now vals1) ⌝ }
     requires { ⌜ ValuedPattern n (now «row_ptr2») (now «col_idx2») (now vals2) ⌝ }
-    requires { ⌜ ValuedPattern n (now «row_ptr3») (now «col_idx3») (now vals3) ⌝ }
+    requires { ⌜ ValuedPattern n (now «row_ptr3») (now «col_idx3») (now vals3)
+        × SharedPattern shared (now «row_ptr1») (now «col_idx1») (now «row_ptr3») (now «col_idx3») ⌝ }
     requires { ⌜ (22 * n ≤ length (now work)) × (x + n ≤ 6 * n) ⌝ }
     ensures { λ _. let w = now (work .entry) in
         let L1 = rowProduct64 n (now («row_ptr1» .entry)) (now («col_idx1» .entry)) (now (vals1 .entry)) in
@@ -104,6 +110,7 @@ pub fn form_rop(
         row_ptr3,
         col_idx3,
         vals3,
+        shared,
         tau,
         work,
         n,
@@ -123,13 +130,15 @@ pub fn form_at_v(
     row_ptr3: &[usize],
     col_idx3: &[u32],
     vals3: &[f64],
+    shared: bool,
     tau: f64,
     work: &mut [f64],
     n: usize,
 )
     requires { ⌜ ValuedPattern n (now «row_ptr1») (now «col_idx1») (now vals1) ⌝ }
     requires { ⌜ ValuedPattern n (now «row_ptr2») (now «col_idx2») (now vals2) ⌝ }
-    requires { ⌜ ValuedPattern n (now «row_ptr3») (now «col_idx3») (now vals3) ⌝ }
+    requires { ⌜ ValuedPattern n (now «row_ptr3») (now «col_idx3») (now vals3)
+        × SharedPattern shared (now «row_ptr1») (now «col_idx1») (now «row_ptr3») (now «col_idx3») ⌝ }
     requires { ⌜ 22 * n ≤ length (now work) ⌝ }
     ensures { λ _. let w = now (work .entry) in
         let L1 = rowProduct64 n (now («row_ptr1» .entry)) (now («col_idx1» .entry)) (now (vals1 .entry)) in
@@ -147,6 +156,7 @@ pub fn form_at_v(
         row_ptr3,
         col_idx3,
         vals3,
+        shared,
         tau,
         work,
         n,

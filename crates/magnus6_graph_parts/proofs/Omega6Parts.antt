@@ -61,65 +61,65 @@ module _ {K : Type 0} (A : Arithmetic K) (n : ℕ) (k : Constants6 K) (τ : K) (
   infix 80 -_
   -- ---- B1x, B2x and B3x
 
-  pub b-formed : (x : ℕ) (w w₁ w₂ w₃ w₄ w₅ w₆ : List K)
+  -- the first write is that of two vectors, P3x after P1x; the sums of them follow
+  pub b-formed : (x : ℕ) (w w₁ w₂ w₃ w₄ w₅ : List K)
       → 22 *ℕ n ≤ length w
       → x +ℕ n ≤ 6 *ℕ n
-      → w₁ ≡ put (6 *ℕ n) (P1 (part x n w)) w
+      → w₁ ≡ put (8 *ℕ n) (P3 (part x n w)) (put (6 *ℕ n) (P1 (part x n w)) w)
       → w₂ ≡ put (7 *ℕ n) (P2 (part x n w₁)) w₁
-      → w₃ ≡ put (8 *ℕ n) (P3 (part x n w₂)) w₂
-      → w₄ ≡ put (9 *ℕ n) (scaled A n (- τ) (part (7 *ℕ n) n w₃)) w₃
-      → w₅ ≡ put (10 *ℕ n) (scaled A n (τ * sqrt15Over3) (subtracted A n (part (6 *ℕ n) n w₄) (part (8 *ℕ n) n w₄))) w₄
-      → w₆ ≡ put (11 *ℕ n) (scaledSecondDifference A n (τ * tenOver3)
-      (part (6 *ℕ n) n w₅) (part (7 *ℕ n) n w₅) (part (8 *ℕ n) n w₅)) w₅
-      → BFormed A n k τ P1 P2 P3 (part x n w) w w₆
+      → w₃ ≡ put (9 *ℕ n) (scaled A n (- τ) (part (7 *ℕ n) n w₂)) w₂
+      → w₄ ≡ put (10 *ℕ n) (scaled A n (τ * sqrt15Over3) (subtracted A n (part (6 *ℕ n) n w₃) (part (8 *ℕ n) n w₃))) w₃
+      → w₅ ≡ put (11 *ℕ n) (scaledSecondDifference A n (τ * tenOver3)
+      (part (6 *ℕ n) n w₄) (part (7 *ℕ n) n w₄) (part (8 *ℕ n) n w₄)) w₄
+      → BFormed A n k τ P1 P2 P3 (part x n w) w w₅
   unfolding b1 b2
-  b-formed x w w₁ w₂ w₃ w₄ w₅ w₆ room within e₁ e₂ e₃ e₄ e₅ e₆ =
+  b-formed x w w₁ w₂ w₃ w₄ w₅ room within e₁ e₂ e₃ e₄ e₅ =
       let v = part x n w in
-      let s₁ = wrote n (6 *ℕ n) _ w w₁ (size1 _) (omega arith) e₁ in
+      let s₀ = wrote n (6 *ℕ n) (P1 v) w (put (6 *ℕ n) (P1 v) w) (size1 _) (omega arith) refl in
+      let s₁ = wrote n (8 *ℕ n) _ (put (6 *ℕ n) (P1 v) w) w₁ (size3 _) (omega arith) e₁ in
       let s₂ = wrote n (7 *ℕ n) _ w₁ w₂ (size2 _) (omega arith) e₂ in
-      let s₃ = wrote n (8 *ℕ n) _ w₂ w₃ (size3 _) (omega arith) e₃ in
-      let s₄ = wrote n (9 *ℕ n) _ w₃ w₄ (length-tabulate _ n) (omega arith) e₄ in
-      let s₅ = wrote n (10 *ℕ n) _ w₄ w₅ (length-tabulate _ n) (omega arith) e₅ in
-      let s₆ = wrote n (11 *ℕ n) _ w₅ w₆ (length-second-difference A n _ _ _ _) (omega arith) e₆ in
-      let a1 = s₃ .apart (6 *ℕ n) (omega arith) ∙ s₂ .apart (6 *ℕ n) (omega arith) ∙ s₁ .here in
-      let a2 = s₃ .apart (7 *ℕ n) (omega arith) ∙ s₂ .here ∙ ap P2 (s₁ .apart x (omega arith)) in
-      let a3 = s₃ .here ∙ ap P3 (s₂ .apart x (omega arith) ∙ s₁ .apart x (omega arith)) in
-      let a1₄ = s₄ .apart (6 *ℕ n) (omega arith) ∙ a1 in
-      let a2₄ = s₄ .apart (7 *ℕ n) (omega arith) ∙ a2 in
-      let a3₄ = s₄ .apart (8 *ℕ n) (omega arith) ∙ a3 in
-      let a1₅ = s₅ .apart (6 *ℕ n) (omega arith) ∙ a1₄ in
-      let a2₅ = s₅ .apart (7 *ℕ n) (omega arith) ∙ a2₄ in
-      let a3₅ = s₅ .apart (8 *ℕ n) (omega arith) ∙ a3₄ in
-      let kept₁ = kept-write n (kept-all n (6 *ℕ n) w) s₁ (omega arith) (omega arith) in
+      let s₃ = wrote n (9 *ℕ n) _ w₂ w₃ (length-tabulate _ n) (omega arith) e₃ in
+      let s₄ = wrote n (10 *ℕ n) _ w₃ w₄ (length-tabulate _ n) (omega arith) e₄ in
+      let s₅ = wrote n (11 *ℕ n) _ w₄ w₅ (length-second-difference A n _ _ _ _) (omega arith) e₅ in
+      let a1 = s₂ .apart (6 *ℕ n) (omega arith) ∙ s₁ .apart (6 *ℕ n) (omega arith) ∙ s₀ .here in
+      let a2 = s₂ .here ∙ ap P2 (s₁ .apart x (omega arith) ∙ s₀ .apart x (omega arith)) in
+      let a3 = s₂ .apart (8 *ℕ n) (omega arith) ∙ s₁ .here in
+      let a1₃ = s₃ .apart (6 *ℕ n) (omega arith) ∙ a1 in
+      let a2₃ = s₃ .apart (7 *ℕ n) (omega arith) ∙ a2 in
+      let a3₃ = s₃ .apart (8 *ℕ n) (omega arith) ∙ a3 in
+      let a1₄ = s₄ .apart (6 *ℕ n) (omega arith) ∙ a1₃ in
+      let a2₄ = s₄ .apart (7 *ℕ n) (omega arith) ∙ a2₃ in
+      let a3₄ = s₄ .apart (8 *ℕ n) (omega arith) ∙ a3₃ in
+      let kept₀ = kept-write n (kept-all n (6 *ℕ n) w) s₀ (omega arith) (omega arith) in
+      let kept₁ = kept-write n kept₀ s₁ (omega arith) (omega arith) in
       let kept₂ = kept-write n kept₁ s₂ (omega arith) (omega arith) in
       let kept₃ = kept-write n kept₂ s₃ (omega arith) (omega arith) in
       let kept₄ = kept-write n kept₃ s₄ (omega arith) (omega arith) in
-      let kept₅ = kept-write n kept₄ s₅ (omega arith) (omega arith) in
       record {
-        b1x = s₆ .apart (9 *ℕ n) (omega arith) ∙ s₅ .apart (9 *ℕ n) (omega arith) ∙ s₄ .here ∙ ap (scaled A n (- τ)) a2;
-        b2x = s₆ .apart (10 *ℕ n) (omega arith) ∙ s₅ .here
-            ∙ ap₂ (λ x₁ x₃. scaled A n (τ * sqrt15Over3) (subtracted A n x₁ x₃)) a1₄ a3₄;
-        b3x = s₆ .here ∙ (λ j. scaledSecondDifference A n (τ * tenOver3) (a1₅ j) (a2₅ j) (a3₅ j))
+        b1x = s₅ .apart (9 *ℕ n) (omega arith) ∙ s₄ .apart (9 *ℕ n) (omega arith) ∙ s₃ .here ∙ ap (scaled A n (- τ)) a2;
+        b2x = s₅ .apart (10 *ℕ n) (omega arith) ∙ s₄ .here
+            ∙ ap₂ (λ x₁ x₃. scaled A n (τ * sqrt15Over3) (subtracted A n x₁ x₃)) a1₃ a3₃;
+        b3x = s₅ .here ∙ (λ j. scaledSecondDifference A n (τ * tenOver3) (a1₄ j) (a2₄ j) (a3₄ j))
             ∙ second-difference-sum A n k τ P1 P2 P3 v;
-        kept = kept-write n kept₅ s₆ (omega arith) (omega arith);
+        kept = kept-write n kept₄ s₅ (omega arith) (omega arith);
       }
 
   -- ---- C1x
 
-  pub c1-formed : (v w : List K) {w₁ : List K} (w₂ w₃ w₄ w₅ w₆ : List K)
+  pub c1-formed : (v w : List K) {w₁ : List K} (w₂ w₄ w₅ w₆ : List K)
       → 22 *ℕ n ≤ length w
       → BFormed A n k τ P1 P2 P3 v w w₁
       → w₂ ≡ put (6 *ℕ n) (P2 (part (10 *ℕ n) n w₁)) w₁
-      → w₃ ≡ put (7 *ℕ n) (P1 (part (9 *ℕ n) n w₂)) w₂
-      → w₄ ≡ put (8 *ℕ n) (P3 (part (9 *ℕ n) n w₃)) w₃
+      → w₄ ≡ put (8 *ℕ n) (P3 (part (9 *ℕ n) n w₂)) (put (7 *ℕ n) (P1 (part (9 *ℕ n) n w₂)) w₂)
       → w₅ ≡ put (12 *ℕ n) (scaled A n (τ * sqrt15Over3) (subtracted A n (part (7 *ℕ n) n w₄) (part (8 *ℕ n) n w₄))) w₄
       → w₆ ≡ put (13 *ℕ n) (subtracted A n (scaled A n (- τ) (part (6 *ℕ n) n w₅)) (part (12 *ℕ n) n w₅)) w₅
       → C1Formed A n k τ P1 P2 P3 v w w₆
   unfolding b1 b2 c1
-  c1-formed v w {w₁} w₂ w₃ w₄ w₅ w₆ room b e₂ e₃ e₄ e₅ e₆ =
+  c1-formed v w {w₁} w₂ w₄ w₅ w₆ room b e₂ e₄ e₅ e₆ =
       let room₁ = room-kept n (b .kept) room in
+      let w₃ = put (7 *ℕ n) (P1 (part (9 *ℕ n) n w₂)) w₂ in
       let s₂ = wrote n (6 *ℕ n) _ w₁ w₂ (size2 _) (omega arith) e₂ in
-      let s₃ = wrote n (7 *ℕ n) _ w₂ w₃ (size1 _) (omega arith) e₃ in
+      let s₃ = wrote n (7 *ℕ n) (P1 (part (9 *ℕ n) n w₂)) w₂ w₃ (size1 _) (omega arith) refl in
       let s₄ = wrote n (8 *ℕ n) _ w₃ w₄ (size3 _) (omega arith) e₄ in
       let s₅ = wrote n (12 *ℕ n) _ w₄ w₅ (length-tabulate _ n) (omega arith) e₅ in
       let s₆ = wrote n (13 *ℕ n) _ w₅ w₆ (length-tabulate _ n) (omega arith) e₆ in
@@ -127,11 +127,10 @@ module _ {K : Type 0} (A : Arithmetic K) (n : ℕ) (k : Constants6 K) (τ : K) (
       s₆ .apart a (omega arith) ∙ s₅ .apart a (omega arith) ∙ s₄ .apart a (omega arith) ∙ s₃ .apart a (omega arith)
       ∙ s₂ .apart a (omega arith) in
       let y₂ = s₂ .apart (9 *ℕ n) (omega arith) ∙ b .b1x in
-      let y₃ = s₃ .apart (9 *ℕ n) (omega arith) ∙ y₂ in
       let p2 = s₅ .apart (6 *ℕ n) (omega arith) ∙ s₄ .apart (6 *ℕ n) (omega arith) ∙ s₃ .apart (6 *ℕ n) (omega arith)
       ∙ s₂ .here ∙ ap P2 (b .b2x) in
       let p1 = s₄ .apart (7 *ℕ n) (omega arith) ∙ s₃ .here ∙ ap P1 y₂ in
-      let p3 = s₄ .here ∙ ap P3 y₃ in
+      let p3 = s₄ .here ∙ ap P3 y₂ in
       let b2y = s₅ .here ∙ ap₂ (λ x₁ x₃. scaled A n (τ * sqrt15Over3) (subtracted A n x₁ x₃)) p1 p3 in
       let kept₂ = kept-write n (b .kept) s₂ (omega arith) (omega arith) in
       let kept₃ = kept-write n kept₂ s₃ (omega arith) (omega arith) in
@@ -150,25 +149,25 @@ module _ {K : Type 0} (A : Arithmetic K) (n : ℕ) (k : Constants6 K) (τ : K) (
 
   -- ---- C2x
 
-  pub c2-formed : (v w : List K) {w₁ : List K} (w₂ w₃ w₄ w₅ w₆ w₇ w₈ : List K)
+  pub c2-formed : (v w : List K) {w₁ : List K} (w₂ w₃ w₄ w₅ w₇ w₈ : List K)
       → 22 *ℕ n ≤ length w
       → C1Formed A n k τ P1 P2 P3 v w w₁
       → w₂ ≡ put (14 *ℕ n) (twiceFirstPlus A n (part (11 *ℕ n) n w₁) (part (13 *ℕ n) n w₁)) w₁
       → w₃ ≡ put (15 *ℕ n) (P2 (part (14 *ℕ n) n w₂)) w₂
       → w₄ ≡ put (16 *ℕ n) (P2 (part (9 *ℕ n) n w₃)) w₃
       → w₅ ≡ put (17 *ℕ n) (P2 (part (12 *ℕ n) n w₄)) w₄
-      → w₆ ≡ put (18 *ℕ n) (P1 (part (16 *ℕ n) n w₅)) w₅
-      → w₇ ≡ put (19 *ℕ n) (P3 (part (16 *ℕ n) n w₆)) w₆
+      → w₇ ≡ put (19 *ℕ n) (P3 (part (16 *ℕ n) n w₅)) (put (18 *ℕ n) (P1 (part (16 *ℕ n) n w₅)) w₅)
       → w₈ ≡ put (20 *ℕ n) (c2Sum A n k τ (part (15 *ℕ n) n w₇) (part (7 *ℕ n) n w₇) (part (16 *ℕ n) n w₇)
       (part (8 *ℕ n) n w₇) (part (17 *ℕ n) n w₇) (part (18 *ℕ n) n w₇) (part (19 *ℕ n) n w₇)) w₇
       → C2Formed A n k τ P1 P2 P3 v w w₈
-  c2-formed v w {w₁} w₂ w₃ w₄ w₅ w₆ w₇ w₈ room c e₂ e₃ e₄ e₅ e₆ e₇ e₈ =
+  c2-formed v w {w₁} w₂ w₃ w₄ w₅ w₇ w₈ room c e₂ e₃ e₄ e₅ e₇ e₈ =
       let room₁ = room-kept n (c .kept) room in
+      let w₆ = put (18 *ℕ n) (P1 (part (16 *ℕ n) n w₅)) w₅ in
       let s₂ = wrote n (14 *ℕ n) _ w₁ w₂ (length-twice-first-plus A n _ _) (omega arith) e₂ in
       let s₃ = wrote n (15 *ℕ n) _ w₂ w₃ (size2 _) (omega arith) e₃ in
       let s₄ = wrote n (16 *ℕ n) _ w₃ w₄ (size2 _) (omega arith) e₄ in
       let s₅ = wrote n (17 *ℕ n) _ w₄ w₅ (size2 _) (omega arith) e₅ in
-      let s₆ = wrote n (18 *ℕ n) _ w₅ w₆ (size1 _) (omega arith) e₆ in
+      let s₆ = wrote n (18 *ℕ n) (P1 (part (16 *ℕ n) n w₅)) w₅ w₆ (size1 _) (omega arith) refl in
       let s₇ = wrote n (19 *ℕ n) _ w₆ w₇ (size3 _) (omega arith) e₇ in
       let s₈ = wrote n (20 *ℕ n) _ w₇ w₈ (length-c2-sum A n k τ _ _ _ _ _ _ _) (omega arith) e₈ in
       -- the vectors before 14n are those of C1x
@@ -183,12 +182,11 @@ module _ {K : Type 0} (A : Arithmetic K) (n : ℕ) (k : Constants6 K) (τ : K) (
       let p2w = s₇ .apart (15 *ℕ n) (omega arith) ∙ s₆ .apart (15 *ℕ n) (omega arith) ∙ s₅ .apart (15 *ℕ n) (omega arith)
       ∙ s₄ .apart (15 *ℕ n) (omega arith) ∙ s₃ .here ∙ ap P2 w-x in
       let p2y₅ = s₅ .apart (16 *ℕ n) (omega arith) ∙ s₄ .here ∙ ap P2 (k₃ .before (9 *ℕ n) (omega arith) ∙ c .b1x) in
-      let p2y₆ = s₆ .apart (16 *ℕ n) (omega arith) ∙ p2y₅ in
-      let p2y = s₇ .apart (16 *ℕ n) (omega arith) ∙ p2y₆ in
+      let p2y = s₇ .apart (16 *ℕ n) (omega arith) ∙ s₆ .apart (16 *ℕ n) (omega arith) ∙ p2y₅ in
       let p2b2y = s₇ .apart (17 *ℕ n) (omega arith) ∙ s₆ .apart (17 *ℕ n) (omega arith)
       ∙ s₅ .here ∙ ap P2 (k₄ .before (12 *ℕ n) (omega arith) ∙ c .b2y) in
       let p1p2y = s₇ .apart (18 *ℕ n) (omega arith) ∙ s₆ .here ∙ ap P1 p2y₅ in
-      let p3p2y = s₇ .here ∙ ap P3 p2y₆ in
+      let p3p2y = s₇ .here ∙ ap P3 p2y₅ in
       let p1y = k₇ .before (7 *ℕ n) (omega arith) ∙ c .p1y in
       let p3y = k₇ .before (8 *ℕ n) (omega arith) ∙ c .p3y in
       record {

@@ -24,7 +24,8 @@
 //   19n   L3 L2 y
 //   20n   C2 x
 //   21n   (B2 + C2) l
-// No vector is read after another has taken its place.
+// No vector is read after another has taken its place. `shared` says that the first and the third sample have one pattern: one walk over it then
+// forms both of their products with a vector.
 ghost use mathlib.Core.Path.{_≡_};
 ghost use Prim.Native.Nat.{_+_, _*_, _≤_};
 ghost use lib.ListN.{length};
@@ -33,9 +34,11 @@ ghost use Rattle.arithmetic.specs.Arithmetic.{ieee};
 ghost use Rattle.scratch.specs.Parts.{part, put};
 ghost use Rattle.graph_checks.specs.Pattern.{ValuedPattern};
 ghost use Rattle.graph_rows.specs.RowProduct.{rowProduct64};
+ghost use Rattle.graph_two_products.specs.SharedPattern.{SharedPattern};
 ghost use Rattle.magnus.specs.Omega6.{constants6};
 ghost use Rattle.magnus6_graph_parts.specs.Omega6Parts.{scaledSecondDifference, BFormed};
 use graph_scratch::kernel::product_in;
+use graph_two_products::kernel::two_products_in;
 use scratch_multiples::kernel::scale_within;
 use scratch_multiples::kernel::scaled_difference;
 
@@ -73,6 +76,7 @@ pub fn form_b(
     row_ptr3: &[usize],
     col_idx3: &[u32],
     vals3: &[f64],
+    shared: bool,
     tau: f64,
     work: &mut [f64],
     n: usize,
@@ -80,7 +84,8 @@ pub fn form_b(
 )
     requires { ⌜ ValuedPattern n (now «row_ptr1») (now «col_idx1») (now vals1) ⌝ }
     requires { ⌜ ValuedPattern n (now «row_ptr2») (now «col_idx2») (now vals2) ⌝ }
-    requires { ⌜ ValuedPattern n (now «row_ptr3») (now «col_idx3») (now vals3) ⌝ }
+    requires { ⌜ ValuedPattern n (now «row_ptr3») (now «col_idx3») (now vals3)
+        × SharedPattern shared (now «row_ptr1») (now «col_idx1») (now «row_ptr3») (now «col_idx3») ⌝ }
     requires { ⌜ (22 * n ≤ length (now work)) × (x + n ≤ 6 * n) ⌝ }
     ensures { λ _. let w = now (work .entry) in
         let L1 = rowProduct64 n (now («row_ptr1» .entry)) (now («col_idx1» .entry)) (now (vals1 .entry)) in
@@ -88,10 +93,22 @@ pub fn form_b(
         let L3 = rowProduct64 n (now («row_ptr3» .entry)) (now («col_idx3» .entry)) (now (vals3 .entry)) in
         ⌜ BFormed (ieee binary64) n constants6 tau L1 L2 L3 (part x n w) w (now (work .exit)) ⌝ }
 {
-    // L1 x, L2 x, L3 x
-    product_in(row_ptr1, col_idx1, vals1, work, n, x, 6 * n);
+    // L1 x, L3 x, L2 x
+    two_products_in(
+        row_ptr1,
+        col_idx1,
+        vals1,
+        row_ptr3,
+        col_idx3,
+        vals3,
+        shared,
+        work,
+        n,
+        x,
+        6 * n,
+        8 * n,
+    );
     product_in(row_ptr2, col_idx2, vals2, work, n, x, 7 * n);
-    product_in(row_ptr3, col_idx3, vals3, work, n, x, 8 * n);
     // B1 x, B2 x, B3 x
     scale_within(work, n, -tau, 7 * n, 9 * n);
     scaled_difference(work, n, tau * SQRT15_OVER_3, 6 * n, 8 * n, 10 * n);

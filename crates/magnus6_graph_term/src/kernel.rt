@@ -1,12 +1,13 @@
 // A term of the Taylor sum of order 6 (01, part 9) for callers that have checked its arguments. L1, L2 and L3 are the products with the three
 // samples. The vectors of n places lie one after the other in the work slice: at 0 the sum so far, at n v, the signal and then its images
-// under Ω; from 2n on those of the crate magnus6_graph_parts (src/kernel.rt).
+// under Ω; from 2n on those of the crate magnus6_graph_parts (src/kernel.rt), which tells too what `shared` says.
 ghost use Prim.Native.Nat.{_*_, _≤_};
 ghost use lib.ListN.{length};
 ghost use lib.Ieee.{binary64};
 ghost use Rattle.arithmetic.specs.Arithmetic.{ieee};
 ghost use Rattle.graph_checks.specs.Pattern.{ValuedPattern};
 ghost use Rattle.graph_rows.specs.RowProduct.{rowProduct64};
+ghost use Rattle.graph_two_products.specs.SharedPattern.{SharedPattern};
 ghost use Rattle.magnus.specs.Omega6.{constants6, omega6};
 ghost use Rattle.magnus.specs.OperatorArithmetic.{onVectors};
 ghost use Rattle.magnus_graph_helpers.specs.Terms.{TermAdded};
@@ -32,6 +33,7 @@ pub fn taylor_term6(
     row_ptr3: &[usize],
     col_idx3: &[u32],
     vals3: &[f64],
+    shared: bool,
     tau: f64,
     coefficient: f64,
     work: &mut [f64],
@@ -39,7 +41,8 @@ pub fn taylor_term6(
 )
     requires { ⌜ ValuedPattern n (now «row_ptr1») (now «col_idx1») (now vals1) ⌝ }
     requires { ⌜ ValuedPattern n (now «row_ptr2») (now «col_idx2») (now vals2) ⌝ }
-    requires { ⌜ ValuedPattern n (now «row_ptr3») (now «col_idx3») (now vals3) ⌝ }
+    requires { ⌜ ValuedPattern n (now «row_ptr3») (now «col_idx3») (now vals3)
+        × SharedPattern shared (now «row_ptr1») (now «col_idx1») (now «row_ptr3») (now «col_idx3») ⌝ }
     requires { ⌜ 22 * n ≤ length (now work) ⌝ }
     ensures { λ _. let A = ieee binary64 in
         let L1 = rowProduct64 n (now («row_ptr1» .entry)) (now («col_idx1» .entry)) (now (vals1 .entry)) in
@@ -58,6 +61,7 @@ pub fn taylor_term6(
         row_ptr3,
         col_idx3,
         vals3,
+        shared,
         tau,
         work,
         n,
@@ -72,6 +76,7 @@ pub fn taylor_term6(
         row_ptr3,
         col_idx3,
         vals3,
+        shared,
         tau,
         work,
         n,
@@ -87,6 +92,7 @@ pub fn taylor_term6(
         row_ptr3,
         col_idx3,
         vals3,
+        shared,
         tau,
         work,
         n,

@@ -30,107 +30,90 @@ product-in-requires : tie.Need-product-in-requires
 product-in-requires c κs =
     let first = c .before .before .before in
     let start = first .before .before .before .before .before .before .before .before .before .before .before .before in
-    (start .pre .1 .0 .pattern, (start .pre .1 .0 .count, omega (arith, start .pre .1 .1 .1 .0, start .pre .1 .1 .1 .1, first .form-b .kept .1 .1 .1 .1 .1 .1 .1 .1 .1 .1 .0)))
+    (start .pre .1 .0 .pattern, (start .pre .1 .0 .count, omega (arith, start .pre .1 .1 .1 .0, start .pre .1 .1 .1 .1, first .form-b .kept .1 .1 .1 .1 .1 .1 .1 .1 .1 .1 .1 .0)))
 
-mul-product-in-3 : tie.Need-mul-product-in-3
-mul-product-in-3 c =
+mul-two-products-in : tie.Need-mul-two-products-in
+mul-two-products-in c =
     let start = c .before .before .before .before .before .before .before .before .before .before .before .before .before .before .before .before .before .before .before in
     omega (arith, start .pre .1 .1 .1 .0, start .good)
 
-mul-product-in-4 : tie.Need-mul-product-in-4
-mul-product-in-4 c =
+mul-two-products-in-2 : tie.Need-mul-two-products-in-2
+mul-two-products-in-2 c =
     let start = c .before .before .before .before .before .before .before .before .before .before .before .before .before .before .before .before .before .before .before in
     omega (arith, start .pre .1 .1 .1 .0, start .good)
 
-product-in-requires-2 : tie.Need-product-in-requires-2
-product-in-requires-2 c κs =
+mul-two-products-in-3 : tie.Need-mul-two-products-in-3
+mul-two-products-in-3 c =
+    let start = c .before .before .before .before .before .before .before .before .before .before .before .before .before .before .before .before .before .before .before in
+    omega (arith, start .pre .1 .1 .1 .0, start .good)
+
+two-products-in-requires : tie.Need-two-products-in-requires
+two-products-in-requires c κs =
     let second = c .before .before .before in
     let first = second .before .before .before .before in
     let start = first .before .before .before .before .before .before .before .before .before .before .before .before in
-    (start .pre .0 .pattern, (start .pre .0 .count, omega (arith, start .pre .1 .1 .1 .0, start .pre .1 .1 .1 .1, first .form-b .kept .1 .1 .1 .1 .1 .1 .1 .1 .1 .1 .0, second .product-in .kept .1 .1 .1 .0)))
-
-mul-product-in-5 : tie.Need-mul-product-in-5
-mul-product-in-5 c =
-    let start = c .before .before .before .before .before .before .before .before .before .before .before .before .before .before .before .before .before .before .before .before .before .before .before in
-    omega (arith, start .pre .1 .1 .1 .0, start .good)
-
-mul-product-in-6 : tie.Need-mul-product-in-6
-mul-product-in-6 c =
-    let start = c .before .before .before .before .before .before .before .before .before .before .before .before .before .before .before .before .before .before .before .before .before .before .before in
-    omega (arith, start .pre .1 .1 .1 .0, start .good)
-
-product-in-requires-3 : tie.Need-product-in-requires-3
-product-in-requires-3 c κs =
-    let third = c .before .before .before in
-    let second = third .before .before .before .before in
-    let first = second .before .before .before .before in
-    let start = first .before .before .before .before .before .before .before .before .before .before .before .before in
-    (start .pre .1 .1 .0 .pattern, (start .pre .1 .1 .0 .count, omega (arith, start .pre .1 .1 .1 .0, start .pre .1 .1 .1 .1, first .form-b .kept .1 .1 .1 .1 .1 .1 .1 .1 .1 .1 .0, second .product-in .kept .1 .1 .1 .0, third .product-in2 .kept .1 .1 .1 .0)))
+    (start .pre .0, (start .pre .1 .1 .0 .0, (start .pre .1 .1 .0 .1, (omega (arith, start .pre .1 .1 .1 .0, start .pre .1 .1 .1 .1, first .form-b .kept .1 .1 .1 .1 .1 .1 .1 .1 .1 .1 .1 .0, second .product-in .kept .1 .1 .1 .0), omega (arith, start .pre .1 .1 .1 .0, start .pre .1 .1 .1 .1, first .form-b .kept .1 .1 .1 .1 .1 .1 .1 .1 .1 .1 .1 .0, second .product-in .kept .1 .1 .1 .0)))))
 
 mul-scaled-difference : tie.Need-mul-scaled-difference
 mul-scaled-difference c =
-    let start = c .before .before .before .before .before .before .before .before .before .before .before .before .before .before .before .before .before .before .before .before .before .before .before .before .before .before .before in
+    let start = c .before .before .before .before .before .before .before .before .before .before .before .before .before .before .before .before .before .before .before .before .before .before .before in
     omega (arith, start .pre .1 .1 .1 .0, start .good)
 
 mul-scaled-difference-2 : tie.Need-mul-scaled-difference-2
 mul-scaled-difference-2 c =
-    let start = c .before .before .before .before .before .before .before .before .before .before .before .before .before .before .before .before .before .before .before .before .before .before .before .before .before .before .before in
+    let start = c .before .before .before .before .before .before .before .before .before .before .before .before .before .before .before .before .before .before .before .before .before .before .before in
     omega (arith, start .pre .1 .1 .1 .0, start .good)
 
 mul-scaled-difference-3 : tie.Need-mul-scaled-difference-3
 mul-scaled-difference-3 c =
-    let start = c .before .before .before .before .before .before .before .before .before .before .before .before .before .before .before .before .before .before .before .before .before .before .before .before .before .before .before in
+    let start = c .before .before .before .before .before .before .before .before .before .before .before .before .before .before .before .before .before .before .before .before .before .before .before in
     omega (arith, start .pre .1 .1 .1 .0, start .good)
 
 scaled-difference-requires : tie.Need-scaled-difference-requires
 scaled-difference-requires c κs =
+    let third = c .before .before .before in
+    let second = third .before .before .before .before in
+    let first = second .before .before .before .before in
+    let start = first .before .before .before .before .before .before .before .before .before .before .before .before in
+    omega (arith, start .pre .1 .1 .1 .0, start .pre .1 .1 .1 .1, first .form-b .kept .1 .1 .1 .1 .1 .1 .1 .1 .1 .1 .1 .0, second .product-in .kept .1 .1 .1 .0, third .two-products-in .kept .1 .1 .1 .1 .1 .1 .1 .0)
+
+mul-scaled-less : tie.Need-mul-scaled-less
+mul-scaled-less c =
+    let start = c .before .before .before .before .before .before .before .before .before .before .before .before .before .before .before .before .before .before .before .before .before .before .before .before .before .before .before in
+    omega (arith, start .pre .1 .1 .1 .0, start .good)
+
+mul-scaled-less-2 : tie.Need-mul-scaled-less-2
+mul-scaled-less-2 c =
+    let start = c .before .before .before .before .before .before .before .before .before .before .before .before .before .before .before .before .before .before .before .before .before .before .before .before .before .before .before in
+    omega (arith, start .pre .1 .1 .1 .0, start .good)
+
+mul-scaled-less-3 : tie.Need-mul-scaled-less-3
+mul-scaled-less-3 c =
+    let start = c .before .before .before .before .before .before .before .before .before .before .before .before .before .before .before .before .before .before .before .before .before .before .before .before .before .before .before in
+    omega (arith, start .pre .1 .1 .1 .0, start .good)
+
+scaled-less-requires : tie.Need-scaled-less-requires
+scaled-less-requires c κs =
     let fourth = c .before .before .before in
     let third = fourth .before .before .before .before in
     let second = third .before .before .before .before in
     let first = second .before .before .before .before in
     let start = first .before .before .before .before .before .before .before .before .before .before .before .before in
-    omega (arith, start .pre .1 .1 .1 .0, start .pre .1 .1 .1 .1, first .form-b .kept .1 .1 .1 .1 .1 .1 .1 .1 .1 .1 .0, second .product-in .kept .1 .1 .1 .0, third .product-in2 .kept .1 .1 .1 .0, fourth .product-in3 .kept .1 .1 .1 .0)
-
-mul-scaled-less : tie.Need-mul-scaled-less
-mul-scaled-less c =
-    let start = c .before .before .before .before .before .before .before .before .before .before .before .before .before .before .before .before .before .before .before .before .before .before .before .before .before .before .before .before .before .before .before in
-    omega (arith, start .pre .1 .1 .1 .0, start .good)
-
-mul-scaled-less-2 : tie.Need-mul-scaled-less-2
-mul-scaled-less-2 c =
-    let start = c .before .before .before .before .before .before .before .before .before .before .before .before .before .before .before .before .before .before .before .before .before .before .before .before .before .before .before .before .before .before .before in
-    omega (arith, start .pre .1 .1 .1 .0, start .good)
-
-mul-scaled-less-3 : tie.Need-mul-scaled-less-3
-mul-scaled-less-3 c =
-    let start = c .before .before .before .before .before .before .before .before .before .before .before .before .before .before .before .before .before .before .before .before .before .before .before .before .before .before .before .before .before .before .before in
-    omega (arith, start .pre .1 .1 .1 .0, start .good)
-
-scaled-less-requires : tie.Need-scaled-less-requires
-scaled-less-requires c κs =
-    let fifth = c .before .before .before in
-    let fourth = fifth .before .before .before .before in
-    let third = fourth .before .before .before .before in
-    let second = third .before .before .before .before in
-    let first = second .before .before .before .before in
-    let start = first .before .before .before .before .before .before .before .before .before .before .before .before in
-    omega (arith, start .pre .1 .1 .1 .0, start .pre .1 .1 .1 .1, first .form-b .kept .1 .1 .1 .1 .1 .1 .1 .1 .1 .1 .0, second .product-in .kept .1 .1 .1 .0, third .product-in2 .kept .1 .1 .1 .0, fourth .product-in3 .kept .1 .1 .1 .0, fifth .scaled-difference .kept .0)
+    omega (arith, start .pre .1 .1 .1 .0, start .pre .1 .1 .1 .1, first .form-b .kept .1 .1 .1 .1 .1 .1 .1 .1 .1 .1 .1 .0, second .product-in .kept .1 .1 .1 .0, third .two-products-in .kept .1 .1 .1 .1 .1 .1 .1 .0, fourth .scaled-difference .kept .0)
 
 same-length : tie.Need-same-length
 same-length c =
-    let sixth = c .before .before in
-    let fifth = sixth .before .before .before .before in
+    let fifth = c .before .before in
     let fourth = fifth .before .before .before .before in
     let third = fourth .before .before .before .before in
     let second = third .before .before .before .before in
     let first = second .before .before .before .before in
-    omega (arith, first .form-b .kept .1 .1 .1 .1 .1 .1 .1 .1 .1 .1 .0, second .product-in .kept .1 .1 .1 .0, third .product-in2 .kept .1 .1 .1 .0, fourth .product-in3 .kept .1 .1 .1 .0, fifth .scaled-difference .kept .0, sixth .scaled-less .kept .0)
+    omega (arith, first .form-b .kept .1 .1 .1 .1 .1 .1 .1 .1 .1 .1 .1 .0, second .product-in .kept .1 .1 .1 .0, third .two-products-in .kept .1 .1 .1 .1 .1 .1 .1 .0, fourth .scaled-difference .kept .0, fifth .scaled-less .kept .0)
 
 returns : tie.Need-returns
 unfolding ofBits
 returns c =
-    let sixth = c .before .before in
-    let fifth = sixth .before .before .before .before in
+    let fifth = c .before .before in
     let fourth = fifth .before .before .before .before in
     let third = fourth .before .before .before .before in
     let second = third .before .before .before .before in
@@ -142,8 +125,9 @@ returns c =
     let L2 = rowProduct64 n (args .row-ptr2 .now) (args .col-idx2 .now) (args .vals2 .now) in
     let L3 = rowProduct64 n (args .row-ptr3 .now) (args .col-idx3 .now) (args .vals3 .now) in
     c1-formed (ieee binary64) n constants6 (args .tau) L1 L2 L3 (λ x. length-tabulate _ n) (λ x. length-tabulate _ n) (λ x. length-tabulate _ n)
-    (part (args .x) n (args .work .now)) (args .work .now) _ _ _ _ _ (start .pre .1 .1 .1 .0)
-    (first .form-b .ensures) (second .product-in .ensures) (third .product-in2 .ensures) (fourth .product-in3 .ensures) (fifth .scaled-difference .ensures) (sixth .scaled-less .ensures)
+    (part (args .x) n (args .work .now)) (args .work .now) _ _ _ _ (start .pre .1 .1 .1 .0)
+    (first .form-b .ensures) (second .product-in .ensures) (third .two-products-in .ensures) (fourth .scaled-difference .ensures)
+    (fifth .scaled-less .ensures)
 
 pub form-c1-spec : {M : Type 1} → statement M
 form-c1-spec =
@@ -153,12 +137,10 @@ form-c1-spec =
     mul-product-in
     mul-product-in-2
     product-in-requires
-    mul-product-in-3
-    mul-product-in-4
-    product-in-requires-2
-    mul-product-in-5
-    mul-product-in-6
-    product-in-requires-3
+    mul-two-products-in
+    mul-two-products-in-2
+    mul-two-products-in-3
+    two-products-in-requires
     mul-scaled-difference
     mul-scaled-difference-2
     mul-scaled-difference-3

@@ -20,7 +20,7 @@ w-sum-requires : tie.Need-w-sum-requires
 w-sum-requires c κs =
     let first = c .before .before .before in
     let start = first .before .before .before .before .before .before .before .before .before .before .before .before in
-    omega (arith, start .pre .1 .1 .1 .0, start .pre .1 .1 .1 .1, first .form-c1 .kept .1 .1 .1 .1 .1 .1 .1 .1 .1 .1 .0)
+    omega (arith, start .pre .1 .1 .1 .0, start .pre .1 .1 .1 .1, first .form-c1 .kept .1 .1 .1 .1 .1 .1 .1 .1 .1 .1 .1 .0)
 
 mul-product-in : tie.Need-mul-product-in
 mul-product-in c =
@@ -37,7 +37,7 @@ product-in-requires c κs =
     let second = c .before .before .before in
     let first = second .before .before .before .before in
     let start = first .before .before .before .before .before .before .before .before .before .before .before .before in
-    (start .pre .1 .0 .pattern, (start .pre .1 .0 .count, omega (arith, start .pre .1 .1 .1 .0, start .pre .1 .1 .1 .1, first .form-c1 .kept .1 .1 .1 .1 .1 .1 .1 .1 .1 .1 .0, second .w-sum .kept .0)))
+    (start .pre .1 .0 .pattern, (start .pre .1 .0 .count, omega (arith, start .pre .1 .1 .1 .0, start .pre .1 .1 .1 .1, first .form-c1 .kept .1 .1 .1 .1 .1 .1 .1 .1 .1 .1 .1 .0, second .w-sum .kept .0)))
 
 mul-product-in-3 : tie.Need-mul-product-in-3
 mul-product-in-3 c =
@@ -55,7 +55,7 @@ product-in-requires-2 c κs =
     let second = third .before .before .before .before in
     let first = second .before .before .before .before in
     let start = first .before .before .before .before .before .before .before .before .before .before .before .before in
-    (start .pre .1 .0 .pattern, (start .pre .1 .0 .count, omega (arith, start .pre .1 .1 .1 .0, start .pre .1 .1 .1 .1, first .form-c1 .kept .1 .1 .1 .1 .1 .1 .1 .1 .1 .1 .0, second .w-sum .kept .0, third .product-in .kept .1 .1 .1 .0)))
+    (start .pre .1 .0 .pattern, (start .pre .1 .0 .count, omega (arith, start .pre .1 .1 .1 .0, start .pre .1 .1 .1 .1, first .form-c1 .kept .1 .1 .1 .1 .1 .1 .1 .1 .1 .1 .1 .0, second .w-sum .kept .0, third .product-in .kept .1 .1 .1 .0)))
 
 mul-product-in-5 : tie.Need-mul-product-in-5
 mul-product-in-5 c =
@@ -74,40 +74,35 @@ product-in-requires-3 c κs =
     let second = third .before .before .before .before in
     let first = second .before .before .before .before in
     let start = first .before .before .before .before .before .before .before .before .before .before .before .before in
-    (start .pre .1 .0 .pattern, (start .pre .1 .0 .count, omega (arith, start .pre .1 .1 .1 .0, start .pre .1 .1 .1 .1, first .form-c1 .kept .1 .1 .1 .1 .1 .1 .1 .1 .1 .1 .0, second .w-sum .kept .0, third .product-in .kept .1 .1 .1 .0, fourth .product-in2 .kept .1 .1 .1 .0)))
+    (start .pre .1 .0 .pattern, (start .pre .1 .0 .count, omega (arith, start .pre .1 .1 .1 .0, start .pre .1 .1 .1 .1, first .form-c1 .kept .1 .1 .1 .1 .1 .1 .1 .1 .1 .1 .1 .0, second .w-sum .kept .0, third .product-in .kept .1 .1 .1 .0, fourth .product-in2 .kept .1 .1 .1 .0)))
 
-mul-product-in-7 : tie.Need-mul-product-in-7
-mul-product-in-7 c =
+mul-two-products-in : tie.Need-mul-two-products-in
+mul-two-products-in c =
     let start = c .before .before .before .before .before .before .before .before .before .before .before .before .before .before .before .before .before .before .before .before .before .before .before .before .before .before .before .before .before .before .before in
     omega (arith, start .pre .1 .1 .1 .0, start .good)
 
-mul-product-in-8 : tie.Need-mul-product-in-8
-mul-product-in-8 c =
+mul-two-products-in-2 : tie.Need-mul-two-products-in-2
+mul-two-products-in-2 c =
     let start = c .before .before .before .before .before .before .before .before .before .before .before .before .before .before .before .before .before .before .before .before .before .before .before .before .before .before .before .before .before .before .before in
     omega (arith, start .pre .1 .1 .1 .0, start .good)
 
-product-in-requires-4 : tie.Need-product-in-requires-4
-product-in-requires-4 c κs =
+mul-two-products-in-3 : tie.Need-mul-two-products-in-3
+mul-two-products-in-3 c =
+    let start = c .before .before .before .before .before .before .before .before .before .before .before .before .before .before .before .before .before .before .before .before .before .before .before .before .before .before .before .before .before .before .before in
+    omega (arith, start .pre .1 .1 .1 .0, start .good)
+
+two-products-in-requires : tie.Need-two-products-in-requires
+two-products-in-requires c κs =
     let fifth = c .before .before .before in
     let fourth = fifth .before .before .before .before in
     let third = fourth .before .before .before .before in
     let second = third .before .before .before .before in
     let first = second .before .before .before .before in
     let start = first .before .before .before .before .before .before .before .before .before .before .before .before in
-    (start .pre .0 .pattern, (start .pre .0 .count, omega (arith, start .pre .1 .1 .1 .0, start .pre .1 .1 .1 .1, first .form-c1 .kept .1 .1 .1 .1 .1 .1 .1 .1 .1 .1 .0, second .w-sum .kept .0, third .product-in .kept .1 .1 .1 .0, fourth .product-in2 .kept .1 .1 .1 .0, fifth .product-in3 .kept .1 .1 .1 .0)))
+    (start .pre .0, (start .pre .1 .1 .0 .0, (start .pre .1 .1 .0 .1, (omega (arith, start .pre .1 .1 .1 .0, start .pre .1 .1 .1 .1, first .form-c1 .kept .1 .1 .1 .1 .1 .1 .1 .1 .1 .1 .1 .0, second .w-sum .kept .0, third .product-in .kept .1 .1 .1 .0, fourth .product-in2 .kept .1 .1 .1 .0, fifth .product-in3 .kept .1 .1 .1 .0), omega (arith, start .pre .1 .1 .1 .0, start .pre .1 .1 .1 .1, first .form-c1 .kept .1 .1 .1 .1 .1 .1 .1 .1 .1 .1 .1 .0, second .w-sum .kept .0, third .product-in .kept .1 .1 .1 .0, fourth .product-in2 .kept .1 .1 .1 .0, fifth .product-in3 .kept .1 .1 .1 .0)))))
 
-mul-product-in-9 : tie.Need-mul-product-in-9
-mul-product-in-9 c =
-    let start = c .before .before .before .before .before .before .before .before .before .before .before .before .before .before .before .before .before .before .before .before .before .before .before .before .before .before .before .before .before .before .before .before .before .before .before in
-    omega (arith, start .pre .1 .1 .1 .0, start .good)
-
-mul-product-in-10 : tie.Need-mul-product-in-10
-mul-product-in-10 c =
-    let start = c .before .before .before .before .before .before .before .before .before .before .before .before .before .before .before .before .before .before .before .before .before .before .before .before .before .before .before .before .before .before .before .before .before .before .before in
-    omega (arith, start .pre .1 .1 .1 .0, start .good)
-
-product-in-requires-5 : tie.Need-product-in-requires-5
-product-in-requires-5 c κs =
+c2-sum-requires : tie.Need-c2-sum-requires
+c2-sum-requires c κs =
     let sixth = c .before .before .before in
     let fifth = sixth .before .before .before .before in
     let fourth = fifth .before .before .before .before in
@@ -115,36 +110,22 @@ product-in-requires-5 c κs =
     let second = third .before .before .before .before in
     let first = second .before .before .before .before in
     let start = first .before .before .before .before .before .before .before .before .before .before .before .before in
-    (start .pre .1 .1 .0 .pattern, (start .pre .1 .1 .0 .count, omega (arith, start .pre .1 .1 .1 .0, start .pre .1 .1 .1 .1, first .form-c1 .kept .1 .1 .1 .1 .1 .1 .1 .1 .1 .1 .0, second .w-sum .kept .0, third .product-in .kept .1 .1 .1 .0, fourth .product-in2 .kept .1 .1 .1 .0, fifth .product-in3 .kept .1 .1 .1 .0, sixth .product-in4 .kept .1 .1 .1 .0)))
-
-c2-sum-requires : tie.Need-c2-sum-requires
-c2-sum-requires c κs =
-    let seventh = c .before .before .before in
-    let sixth = seventh .before .before .before .before in
-    let fifth = sixth .before .before .before .before in
-    let fourth = fifth .before .before .before .before in
-    let third = fourth .before .before .before .before in
-    let second = third .before .before .before .before in
-    let first = second .before .before .before .before in
-    let start = first .before .before .before .before .before .before .before .before .before .before .before .before in
-    omega (arith, start .pre .1 .1 .1 .0, start .pre .1 .1 .1 .1, first .form-c1 .kept .1 .1 .1 .1 .1 .1 .1 .1 .1 .1 .0, second .w-sum .kept .0, third .product-in .kept .1 .1 .1 .0, fourth .product-in2 .kept .1 .1 .1 .0, fifth .product-in3 .kept .1 .1 .1 .0, sixth .product-in4 .kept .1 .1 .1 .0, seventh .product-in5 .kept .1 .1 .1 .0)
+    omega (arith, start .pre .1 .1 .1 .0, start .pre .1 .1 .1 .1, first .form-c1 .kept .1 .1 .1 .1 .1 .1 .1 .1 .1 .1 .1 .0, second .w-sum .kept .0, third .product-in .kept .1 .1 .1 .0, fourth .product-in2 .kept .1 .1 .1 .0, fifth .product-in3 .kept .1 .1 .1 .0, sixth .two-products-in .kept .1 .1 .1 .1 .1 .1 .1 .0)
 
 same-length : tie.Need-same-length
 same-length c =
-    let eighth = c .before .before in
-    let seventh = eighth .before .before .before .before in
+    let seventh = c .before .before in
     let sixth = seventh .before .before .before .before in
     let fifth = sixth .before .before .before .before in
     let fourth = fifth .before .before .before .before in
     let third = fourth .before .before .before .before in
     let second = third .before .before .before .before in
     let first = second .before .before .before .before in
-    omega (arith, first .form-c1 .kept .1 .1 .1 .1 .1 .1 .1 .1 .1 .1 .0, second .w-sum .kept .0, third .product-in .kept .1 .1 .1 .0, fourth .product-in2 .kept .1 .1 .1 .0, fifth .product-in3 .kept .1 .1 .1 .0, sixth .product-in4 .kept .1 .1 .1 .0, seventh .product-in5 .kept .1 .1 .1 .0, eighth .c2-sum .kept .0)
+    omega (arith, first .form-c1 .kept .1 .1 .1 .1 .1 .1 .1 .1 .1 .1 .1 .0, second .w-sum .kept .0, third .product-in .kept .1 .1 .1 .0, fourth .product-in2 .kept .1 .1 .1 .0, fifth .product-in3 .kept .1 .1 .1 .0, sixth .two-products-in .kept .1 .1 .1 .1 .1 .1 .1 .0, seventh .c2-sum .kept .0)
 
 returns : tie.Need-returns
 returns c =
-    let eighth = c .before .before in
-    let seventh = eighth .before .before .before .before in
+    let seventh = c .before .before in
     let sixth = seventh .before .before .before .before in
     let fifth = sixth .before .before .before .before in
     let fourth = fifth .before .before .before .before in
@@ -158,8 +139,9 @@ returns c =
     let L2 = rowProduct64 n (args .row-ptr2 .now) (args .col-idx2 .now) (args .vals2 .now) in
     let L3 = rowProduct64 n (args .row-ptr3 .now) (args .col-idx3 .now) (args .vals3 .now) in
     c2-formed (ieee binary64) n constants6 (args .tau) L1 L2 L3 (λ x. length-tabulate _ n) (λ x. length-tabulate _ n) (λ x. length-tabulate _ n)
-    (part (args .x) n (args .work .now)) (args .work .now) _ _ _ _ _ _ _ (start .pre .1 .1 .1 .0)
-    (first .form-c1 .ensures) (second .w-sum .ensures) (third .product-in .ensures) (fourth .product-in2 .ensures) (fifth .product-in3 .ensures) (sixth .product-in4 .ensures) (seventh .product-in5 .ensures) (eighth .c2-sum .ensures)
+    (part (args .x) n (args .work .now)) (args .work .now) _ _ _ _ _ _ (start .pre .1 .1 .1 .0)
+    (first .form-c1 .ensures) (second .w-sum .ensures) (third .product-in .ensures) (fourth .product-in2 .ensures)
+    (fifth .product-in3 .ensures) (sixth .two-products-in .ensures) (seventh .c2-sum .ensures)
 
 pub form-c2-spec : {M : Type 1} → statement M
 form-c2-spec =
@@ -176,12 +158,10 @@ form-c2-spec =
     mul-product-in-5
     mul-product-in-6
     product-in-requires-3
-    mul-product-in-7
-    mul-product-in-8
-    product-in-requires-4
-    mul-product-in-9
-    mul-product-in-10
-    product-in-requires-5
+    mul-two-products-in
+    mul-two-products-in-2
+    mul-two-products-in-3
+    two-products-in-requires
     c2-sum-requires
     same-length
     returns)

@@ -13,7 +13,7 @@ use Rattle.magnus6_graph_helpers.proofs.kernel.taylor6.Statement.{state
 use Rattle.magnus6_graph_helpers.proofs.kernel.taylor6.Tie as tie
 
 abbrev Inv-loop : tie.InvT-loop
-Inv-loop row-ptr1 col-idx1 vals1 row-ptr2 col-idx2 vals2 row-ptr3 col-idx3 vals3 tau work₀ n k₀ work k =
+Inv-loop row-ptr1 col-idx1 vals1 row-ptr2 col-idx2 vals2 row-ptr3 col-idx3 vals3 shared tau work₀ n k₀ work k =
     let L1 = rowProduct64 n row-ptr1 col-idx1 vals1 in
     let L2 = rowProduct64 n row-ptr2 col-idx2 vals2 in
     let L3 = rowProduct64 n row-ptr3 col-idx3 vals3 in
@@ -21,7 +21,7 @@ Inv-loop row-ptr1 col-idx1 vals1 row-ptr2 col-idx2 vals2 row-ptr3 col-idx3 vals3
     TermsTurn A n (22 * n) (reciprocalFactorial binary64) 6 (omega6 (onVectors A n) constants6 tau L1 L2 L3) work₀ k work
 
 abbrev μ-loop : tie.MeasureT-loop
-μ-loop row-ptr1 col-idx1 vals1 row-ptr2 col-idx2 vals2 row-ptr3 col-idx3 vals3 tau work₀ n k₀ work k = 6 - k
+μ-loop row-ptr1 col-idx1 vals1 row-ptr2 col-idx2 vals2 row-ptr3 col-idx3 vals3 shared tau work₀ n k₀ work k = 6 - k
 
 copy-within-requires : tie.Need-copy-within-requires Inv-loop μ-loop
 copy-within-requires c κs = omega arith

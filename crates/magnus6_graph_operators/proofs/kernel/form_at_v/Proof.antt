@@ -30,7 +30,7 @@ copy-within-requires : tie.Need-copy-within-requires
 copy-within-requires c κs =
     let first = c .before .before .before in
     let start = first .before .before .before .before .before .before .before .before .before .before .before .before in
-    omega (arith, start .pre .1 .1 .1, first .form-c2 .kept .1 .1 .1 .1 .1 .1 .1 .1 .1 .1 .0)
+    omega (arith, start .pre .1 .1 .1, first .form-c2 .kept .1 .1 .1 .1 .1 .1 .1 .1 .1 .1 .1 .0)
 
 mul-add-scaled : tie.Need-mul-add-scaled
 mul-add-scaled c =
@@ -47,7 +47,7 @@ add-scaled-requires c κs =
     let second = c .before .before .before in
     let first = second .before .before .before .before in
     let start = first .before .before .before .before .before .before .before .before .before .before .before .before in
-    omega (arith, start .pre .1 .1 .1, first .form-c2 .kept .1 .1 .1 .1 .1 .1 .1 .1 .1 .1 .0, second .copy-within .kept .0)
+    omega (arith, start .pre .1 .1 .1, first .form-c2 .kept .1 .1 .1 .1 .1 .1 .1 .1 .1 .1 .1 .0, second .copy-within .kept .0)
 
 mul-scaled-less : tie.Need-mul-scaled-less
 mul-scaled-less c =
@@ -70,7 +70,7 @@ scaled-less-requires c κs =
     let second = third .before .before .before .before in
     let first = second .before .before .before .before in
     let start = first .before .before .before .before .before .before .before .before .before .before .before .before in
-    omega (arith, start .pre .1 .1 .1, first .form-c2 .kept .1 .1 .1 .1 .1 .1 .1 .1 .1 .1 .0, second .copy-within .kept .0, third .add-scaled .kept .0)
+    omega (arith, start .pre .1 .1 .1, first .form-c2 .kept .1 .1 .1 .1 .1 .1 .1 .1 .1 .1 .1 .0, second .copy-within .kept .0, third .add-scaled .kept .0)
 
 mul-add : tie.Need-mul-add
 mul-add c =
@@ -94,7 +94,7 @@ add-requires c κs =
     let second = third .before .before .before .before in
     let first = second .before .before .before .before in
     let start = first .before .before .before .before .before .before .before .before .before .before .before .before in
-    omega (arith, start .pre .1 .1 .1, first .form-c2 .kept .1 .1 .1 .1 .1 .1 .1 .1 .1 .1 .0, second .copy-within .kept .0, third .add-scaled .kept .0, fourth .scaled-less .kept .0)
+    omega (arith, start .pre .1 .1 .1, first .form-c2 .kept .1 .1 .1 .1 .1 .1 .1 .1 .1 .1 .1 .0, second .copy-within .kept .0, third .add-scaled .kept .0, fourth .scaled-less .kept .0)
 
 mul-add-4 : tie.Need-mul-add-4
 mul-add-4 c =
@@ -119,7 +119,7 @@ add-requires-2 c κs =
     let second = third .before .before .before .before in
     let first = second .before .before .before .before in
     let start = first .before .before .before .before .before .before .before .before .before .before .before .before in
-    omega (arith, start .pre .1 .1 .1, first .form-c2 .kept .1 .1 .1 .1 .1 .1 .1 .1 .1 .1 .0, second .copy-within .kept .0, third .add-scaled .kept .0, fourth .scaled-less .kept .0, fifth .add .kept .0)
+    omega (arith, start .pre .1 .1 .1, first .form-c2 .kept .1 .1 .1 .1 .1 .1 .1 .1 .1 .1 .1 .0, second .copy-within .kept .0, third .add-scaled .kept .0, fourth .scaled-less .kept .0, fifth .add .kept .0)
 
 same-length : tie.Need-same-length
 same-length c =
@@ -129,7 +129,7 @@ same-length c =
     let third = fourth .before .before .before .before in
     let second = third .before .before .before .before in
     let first = second .before .before .before .before in
-    omega (arith, first .form-c2 .kept .1 .1 .1 .1 .1 .1 .1 .1 .1 .1 .0, second .copy-within .kept .0, third .add-scaled .kept .0, fourth .scaled-less .kept .0, fifth .add .kept .0, sixth .add2 .kept .0)
+    omega (arith, first .form-c2 .kept .1 .1 .1 .1 .1 .1 .1 .1 .1 .1 .1 .0, second .copy-within .kept .0, third .add-scaled .kept .0, fourth .scaled-less .kept .0, fifth .add .kept .0, sixth .add2 .kept .0)
 
 returns : tie.Need-returns
 unfolding ofBits neg div

@@ -35,7 +35,7 @@ scaled-less-requires : tie.Need-scaled-less-requires
 scaled-less-requires c κs =
     let first = c .before .before .before in
     let start = first .before .before .before .before .before .before .before .before .before .before .before .before in
-    omega (arith, start .pre .1 .1 .1 .0, start .pre .1 .1 .1 .1, first .form-c1 .kept .1 .1 .1 .1 .1 .1 .1 .1 .1 .1 .0)
+    omega (arith, start .pre .1 .1 .1 .0, start .pre .1 .1 .1 .1, first .form-c1 .kept .1 .1 .1 .1 .1 .1 .1 .1 .1 .1 .1 .0)
 
 mul-add : tie.Need-mul-add
 mul-add c =
@@ -57,14 +57,14 @@ add-requires c κs =
     let second = c .before .before .before in
     let first = second .before .before .before .before in
     let start = first .before .before .before .before .before .before .before .before .before .before .before .before in
-    omega (arith, start .pre .1 .1 .1 .0, start .pre .1 .1 .1 .1, first .form-c1 .kept .1 .1 .1 .1 .1 .1 .1 .1 .1 .1 .0, second .scaled-less .kept .0)
+    omega (arith, start .pre .1 .1 .1 .0, start .pre .1 .1 .1 .1, first .form-c1 .kept .1 .1 .1 .1 .1 .1 .1 .1 .1 .1 .1 .0, second .scaled-less .kept .0)
 
 same-length : tie.Need-same-length
 same-length c =
     let third = c .before .before in
     let second = third .before .before .before .before in
     let first = second .before .before .before .before in
-    omega (arith, first .form-c1 .kept .1 .1 .1 .1 .1 .1 .1 .1 .1 .1 .0, second .scaled-less .kept .0, third .add .kept .0)
+    omega (arith, first .form-c1 .kept .1 .1 .1 .1 .1 .1 .1 .1 .1 .1 .1 .0, second .scaled-less .kept .0, third .add .kept .0)
 
 returns : tie.Need-returns
 unfolding ofBits neg

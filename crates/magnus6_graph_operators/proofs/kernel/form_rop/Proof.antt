@@ -34,13 +34,13 @@ add-requires : tie.Need-add-requires
 add-requires c κs =
     let first = c .before .before .before in
     let start = first .before .before .before .before .before .before .before .before .before .before .before .before in
-    omega (arith, start .pre .1 .1 .1 .0, start .pre .1 .1 .1 .1, first .form-c2 .kept .1 .1 .1 .1 .1 .1 .1 .1 .1 .1 .0)
+    omega (arith, start .pre .1 .1 .1 .0, start .pre .1 .1 .1 .1, first .form-c2 .kept .1 .1 .1 .1 .1 .1 .1 .1 .1 .1 .1 .0)
 
 same-length : tie.Need-same-length
 same-length c =
     let second = c .before .before in
     let first = second .before .before .before .before in
-    omega (arith, first .form-c2 .kept .1 .1 .1 .1 .1 .1 .1 .1 .1 .1 .0, second .add .kept .0)
+    omega (arith, first .form-c2 .kept .1 .1 .1 .1 .1 .1 .1 .1 .1 .1 .1 .0, second .add .kept .0)
 
 returns : tie.Need-returns
 returns c =

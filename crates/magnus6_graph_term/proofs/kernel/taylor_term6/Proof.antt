@@ -25,7 +25,7 @@ form-lop-requires : tie.Need-form-lop-requires
 form-lop-requires c κs =
     let first = c .before .before .before in
     let start = first .before .before .before .before .before .before .before .before .before .before .before .before in
-    (start .pre .0, (start .pre .1 .0, (start .pre .1 .1 .0, omega (arith, start .pre .1 .1 .1, first .form-at-v .kept .1 .1 .1 .1 .1 .1 .1 .1 .1 .1 .0))))
+    (start .pre .0, (start .pre .1 .0, (start .pre .1 .1 .0, omega (arith, start .pre .1 .1 .1, first .form-at-v .kept .1 .1 .1 .1 .1 .1 .1 .1 .1 .1 .1 .0))))
 
 mul-form-rop : tie.Need-mul-form-rop
 mul-form-rop c =
@@ -37,7 +37,7 @@ form-rop-requires c κs =
     let second = c .before .before .before in
     let first = second .before .before .before .before in
     let start = first .before .before .before .before .before .before .before .before .before .before .before .before in
-    (start .pre .0, (start .pre .1 .0, (start .pre .1 .1 .0, omega (arith, start .pre .1 .1 .1, first .form-at-v .kept .1 .1 .1 .1 .1 .1 .1 .1 .1 .1 .0, second .form-lop .kept .1 .1 .1 .1 .1 .1 .1 .1 .1 .1 .0))))
+    (start .pre .0, (start .pre .1 .0, (start .pre .1 .1 .0, omega (arith, start .pre .1 .1 .1, first .form-at-v .kept .1 .1 .1 .1 .1 .1 .1 .1 .1 .1 .1 .0, second .form-lop .kept .1 .1 .1 .1 .1 .1 .1 .1 .1 .1 .1 .0))))
 
 mul-scaled-difference : tie.Need-mul-scaled-difference
 mul-scaled-difference c =
@@ -60,7 +60,7 @@ scaled-difference-requires c κs =
     let second = third .before .before .before .before in
     let first = second .before .before .before .before in
     let start = first .before .before .before .before .before .before .before .before .before .before .before .before in
-    omega (arith, start .pre .1 .1 .1, first .form-at-v .kept .1 .1 .1 .1 .1 .1 .1 .1 .1 .1 .0, second .form-lop .kept .1 .1 .1 .1 .1 .1 .1 .1 .1 .1 .0, third .form-rop .kept .1 .1 .1 .1 .1 .1 .1 .1 .1 .1 .0)
+    omega (arith, start .pre .1 .1 .1, first .form-at-v .kept .1 .1 .1 .1 .1 .1 .1 .1 .1 .1 .1 .0, second .form-lop .kept .1 .1 .1 .1 .1 .1 .1 .1 .1 .1 .1 .0, third .form-rop .kept .1 .1 .1 .1 .1 .1 .1 .1 .1 .1 .1 .0)
 
 mul-add : tie.Need-mul-add
 mul-add c =
@@ -79,7 +79,7 @@ add-requires c κs =
     let second = third .before .before .before .before in
     let first = second .before .before .before .before in
     let start = first .before .before .before .before .before .before .before .before .before .before .before .before in
-    omega (arith, start .pre .1 .1 .1, first .form-at-v .kept .1 .1 .1 .1 .1 .1 .1 .1 .1 .1 .0, second .form-lop .kept .1 .1 .1 .1 .1 .1 .1 .1 .1 .1 .0, third .form-rop .kept .1 .1 .1 .1 .1 .1 .1 .1 .1 .1 .0, fourth .scaled-difference .kept .0)
+    omega (arith, start .pre .1 .1 .1, first .form-at-v .kept .1 .1 .1 .1 .1 .1 .1 .1 .1 .1 .1 .0, second .form-lop .kept .1 .1 .1 .1 .1 .1 .1 .1 .1 .1 .1 .0, third .form-rop .kept .1 .1 .1 .1 .1 .1 .1 .1 .1 .1 .1 .0, fourth .scaled-difference .kept .0)
 
 add-scaled-requires : tie.Need-add-scaled-requires
 add-scaled-requires c κs =
@@ -89,7 +89,7 @@ add-scaled-requires c κs =
     let second = third .before .before .before .before in
     let first = second .before .before .before .before in
     let start = first .before .before .before .before .before .before .before .before .before .before .before .before in
-    omega (arith, start .pre .1 .1 .1, first .form-at-v .kept .1 .1 .1 .1 .1 .1 .1 .1 .1 .1 .0, second .form-lop .kept .1 .1 .1 .1 .1 .1 .1 .1 .1 .1 .0, third .form-rop .kept .1 .1 .1 .1 .1 .1 .1 .1 .1 .1 .0, fourth .scaled-difference .kept .0, fifth .add .kept .0)
+    omega (arith, start .pre .1 .1 .1, first .form-at-v .kept .1 .1 .1 .1 .1 .1 .1 .1 .1 .1 .1 .0, second .form-lop .kept .1 .1 .1 .1 .1 .1 .1 .1 .1 .1 .1 .0, third .form-rop .kept .1 .1 .1 .1 .1 .1 .1 .1 .1 .1 .1 .0, fourth .scaled-difference .kept .0, fifth .add .kept .0)
 
 same-length : tie.Need-same-length
 same-length c =
@@ -99,7 +99,7 @@ same-length c =
     let third = fourth .before .before .before .before in
     let second = third .before .before .before .before in
     let first = second .before .before .before .before in
-    omega (arith, first .form-at-v .kept .1 .1 .1 .1 .1 .1 .1 .1 .1 .1 .0, second .form-lop .kept .1 .1 .1 .1 .1 .1 .1 .1 .1 .1 .0, third .form-rop .kept .1 .1 .1 .1 .1 .1 .1 .1 .1 .1 .0, fourth .scaled-difference .kept .0, fifth .add .kept .0, sixth .add-scaled .kept .0)
+    omega (arith, first .form-at-v .kept .1 .1 .1 .1 .1 .1 .1 .1 .1 .1 .1 .0, second .form-lop .kept .1 .1 .1 .1 .1 .1 .1 .1 .1 .1 .1 .0, third .form-rop .kept .1 .1 .1 .1 .1 .1 .1 .1 .1 .1 .1 .0, fourth .scaled-difference .kept .0, fifth .add .kept .0, sixth .add-scaled .kept .0)
 
 returns : tie.Need-returns
 unfolding ofBits div
