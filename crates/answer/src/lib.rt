@@ -1,5 +1,7 @@
 // Answers for programs in C and Rust, which cannot take an enum that carries values: the number and the values of document 01's table in one
 // struct.
+#![tactic(auto)]
+
 ghost use Rattle.std.specs.Prelude.{◌≡◌, []};
 ghost use Rattle.answer.specs.Struct.{told, refusal_struct, struct_of};
 
@@ -8,7 +10,7 @@ use refusal_rows::{Row, row_of};
 
 // An answer. No call's answer carries a count and a real, or two counts.
 #[repr(C)]
-#[derive(Drop)]
+#[derive(Clone, Copy)]
 pub struct Answer {
     // 0 where the call is accepted, else the row of 01's table.
     pub number: u64,

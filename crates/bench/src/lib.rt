@@ -1,4 +1,6 @@
 // What the benchmarks measure and no other program can call: functions of the crates' kernels, for a driver in C or Rust to link.
+#![tactic(auto)]
+
 use square_roots::kernel::sqrt_into_slice;
 
 pub mod kernel;

@@ -1,12 +1,14 @@
 // Refusals (error.rs): what a call answers where it does not do its work, and the check of a length, which most calls
 // have. The rows are those of document 01's table, "What a call answers"; specs/Refusals.antt has the number and the
 // values of each.
+#![tactic(auto)]
+
 ghost use Rattle.std.specs.Prelude.{◌≡◌};
 ghost use Rattle.error.specs.Lengths.{length_fault};
 ghost use Rattle.error.specs.Refusals.{Answers};
 
 // One case for each row, in the table's order. A case carries whole counts or reals, never a count turned real.
-#[derive(Drop)]
+#[derive(Clone, Copy)]
 pub enum Refusal {
     // Row 1: the count of row starts, which is not n + 1.
     RowStartCount(usize),
@@ -55,7 +57,7 @@ pub enum Refusal {
 }
 
 // The answer of a check, and of a call that only checks or that writes its result into a lent slice.
-#[derive(Drop)]
+#[derive(Clone, Copy)]
 pub enum Checked {
     Accepted,
     Refused(Refusal),

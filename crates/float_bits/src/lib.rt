@@ -1,4 +1,6 @@
 // Bit patterns of floats. The language's own conversions are not defined at a NaN and its patterns; these are.
+#![tactic(auto)]
+
 ghost use Rattle.std.specs.Prelude.{◌≡◌, true};
 ghost use Rattle.std.specs.Float.{binary64};
 ghost use Rattle.std.specs.Float.Ieee.{of_bits, nan_bits};

@@ -1,5 +1,7 @@
 // For programs in C and Rust: the step of order 6. It makes one call and gives back its answer as a
 // struct; a slice is a pointer and a length to such a program. include/fuistelo.h declares it.
+#![tactic(auto)]
+
 ghost use Rattle.magnus_graph_faults.specs.StepChecks.{sample};
 ghost use Rattle.magnus6_graph_outcome.specs.StepOutcome.{step6_input, Stepped6};
 ghost use Rattle.answer.specs.Struct.{Tells};

@@ -1,5 +1,7 @@
 // For programs in C and Rust: the row product with a Laplacian. It makes one call and gives back its answer as a
 // struct; a slice is a pointer and a length to such a program. include/fuistelo.h declares it.
+#![tactic(auto)]
+
 ghost use Rattle.std.specs.Prelude.{◌≡◌};
 ghost use Rattle.error.specs.Refusals.{Answers};
 ghost use Rattle.graph.specs.ProductOutcome.{product_outcome};

@@ -1,5 +1,7 @@
 // For programs in C and Rust: the runs along a trajectory. Each function makes one call and gives back its
 // answer as a struct; a slice is a pointer and a length to such a program. include/fuistelo.h declares the functions.
+#![tactic(auto)]
+
 ghost use Rattle.graph_traj_parts.specs.Trajectory.{trajectory};
 ghost use Rattle.magnus_graph_traj_outcome.specs.RunOutcome.{forward_run, adjoint_run, Ran};
 ghost use Rattle.answer.specs.Struct.{Tells};

@@ -1,5 +1,7 @@
 // For programs in C and Rust: the adjoint run with node weights along a trajectory. Each function makes one call and gives back its
 // answer as a struct; a slice is a pointer and a length to such a program. include/fuistelo.h declares the functions.
+#![tactic(auto)]
+
 ghost use Rattle.graph_traj_parts.specs.Trajectory.{trajectory};
 ghost use Rattle.magnus_graph_traj_outcome.specs.RunOutcome.{Ran};
 ghost use Rattle.varcoef_magnus_graph_adjoint.specs.WeightedRunOutcome.{weighted_adjoint_run};

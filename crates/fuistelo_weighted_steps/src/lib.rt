@@ -1,5 +1,7 @@
 // For programs in C and Rust: the steps of order 4 with node weights. Each function makes one call and gives back its
 // answer as a struct; a slice is a pointer and a length to such a program. include/fuistelo.h declares the functions.
+#![tactic(auto)]
+
 ghost use Rattle.magnus_graph_faults.specs.StepChecks.{sample};
 ghost use Rattle.magnus_graph_outcome.specs.StepOutcome.{forward, adjoint};
 ghost use Rattle.varcoef_magnus_graph_outcome.specs.StepOutcome.{step_input, Stepped};

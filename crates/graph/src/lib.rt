@@ -1,5 +1,7 @@
 // Laplacians of a network in compressed sparse rows (graph.rs, graph_assemble_helpers.rs): n nodes, n + 1 row starts, and
 // a column and a value for each entry. Row i has the entries from its start up to the next row's start.
+#![tactic(auto)]
+
 ghost use Rattle.std.specs.Prelude.{◌≡◌};
 ghost use Rattle.std.specs.Float.{binary64};
 ghost use Rattle.error.specs.Refusals.{Answers};
@@ -13,7 +15,7 @@ use error::{Checked, Refusal, check_length};
 pub use graph_checks::{check_pattern, from_csr_parts};
 
 // What `gershgorin_bound_csr` answers: the bound, or why there is none.
-#[derive(Drop)]
+#[derive(Clone, Copy)]
 pub enum Bounded {
     Bound(f64),
     Refused(Refusal),

@@ -1,5 +1,7 @@
 // The checks of a Laplacian in compressed sparse rows (graph.rs): n nodes, n + 1 row starts, and a column and a value for each
 // entry. Row i has the entries from its start up to the next row's start.
+#![tactic(auto)]
+
 ghost use Rattle.error.specs.Refusals.{Answers};
 ghost use Rattle.graph_checks.specs.PatternChecks.{pattern_fault, csr_fault};
 

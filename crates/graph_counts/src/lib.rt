@@ -1,4 +1,6 @@
 // The checks of a Laplacian's counts (graph.rs), one function for each row of document 01's table.
+#![tactic(auto)]
+
 ghost use Rattle.std.specs.Prelude.{◌≡◌};
 ghost use Rattle.graph_counts.specs.CountChecks.{size_fault, entry_count_fault};
 

@@ -9,7 +9,7 @@ ghost use Rattle.graph_rows.specs.RowProduct.{row_sum64};
 ghost use Rattle.graph_pairs.specs.Pairs.{firsts, seconds, with_entry};
 
 // Row i of the products of two samples.
-#[derive(Drop)]
+#[derive(Clone, Copy)]
 pub struct RowSums {
     pub first: f64,
     pub second: f64,

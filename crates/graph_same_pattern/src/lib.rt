@@ -1,5 +1,7 @@
 // Whether two samples have one pattern. The samples of a step come each with row starts and columns of its own (01, part 6); where they are
 // the same numbers, one walk over the pattern serves both.
+#![tactic(auto)]
+
 ghost use Rattle.std.specs.Prelude.{◌≡◌, ◌↔◌, true, length};
 
 // Whether two lists of row starts, of one length, are the same. The walk does not stop at a difference, so that several places are

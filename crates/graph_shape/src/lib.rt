@@ -1,4 +1,6 @@
 // The checks of a Laplacian's row starts (graph.rs), after those of its counts.
+#![tactic(auto)]
+
 ghost use Rattle.std.specs.Prelude.{◌≡◌, ◌+◌, true, length};
 ghost use Rattle.graph_shape.specs.ShapeChecks.{Rise, row_starts_fault, shape_fault};
 

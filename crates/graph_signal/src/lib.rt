@@ -1,4 +1,6 @@
 // Sums of signals (graph_signal.rs; 01, part 3). Each call checks the lengths, and writes only where it accepts them.
+#![tactic(auto)]
+
 ghost use Rattle.std.specs.Prelude.{◌≡◌};
 ghost use Rattle.error.specs.Refusals.{Answers};
 ghost use Rattle.graph_signal.specs.Outcome.{copy_outcome, sum_outcome};

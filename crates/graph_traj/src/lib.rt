@@ -1,4 +1,6 @@
 // Trajectories (graph_traj.rs): segments between breakpoints, in each of which the values follow a law. Here is the lookup of a time.
+#![tactic(auto)]
+
 ghost use Rattle.graph_traj.specs.Lookup.{segment_at};
 ghost use Rattle.graph_traj.specs.LookupAnswer.{LookupAnswers};
 ghost use Rattle.graph_traj_breakpoints.specs.LookupChecks.{lookup_fault};
@@ -8,7 +10,7 @@ use error::{Checked, Refusal};
 pub mod kernel;
 
 // What `segment_index` answers: the segment, or why there is none.
-#[derive(Drop)]
+#[derive(Clone, Copy)]
 pub enum Located {
     Segment(usize),
     Refused(Refusal),

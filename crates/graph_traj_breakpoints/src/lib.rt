@@ -1,5 +1,7 @@
 // The checks of the lookup of a time among breakpoints (graph_traj.rs), one function for each row of document 01's table, and their
 // chain. Every function answers what its definition in specs/LookupChecks.antt says, for all inputs.
+#![tactic(auto)]
+
 ghost use Rattle.std.specs.Prelude.{◌≡◌, not, ◌<◌, length};
 ghost use Rattle.graph_traj_breakpoints.specs.LookupChecks.{not_rising_at, breakpoints_fault, lookup_time_fault, lookup_fault};
 

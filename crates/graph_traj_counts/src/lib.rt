@@ -1,4 +1,6 @@
 // The checks of the counts of a trajectory (graph_traj.rs): rows 13 and 14 of document 01's table.
+#![tactic(auto)]
+
 ghost use Rattle.std.specs.Prelude.{◌≡◌};
 ghost use Rattle.graph_traj_counts.specs.CountChecks.{segment_count_fault, pool_count_fault};
 

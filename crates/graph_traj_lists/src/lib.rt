@@ -1,5 +1,7 @@
 // The checks of a trajectory's lists (graph_traj.rs): rows 19 and 5 of document 01's table, and their chains. Every function answers
 // what its definition in specs/ListChecks.antt says, for all inputs.
+#![tactic(auto)]
+
 ghost use Rattle.std.specs.Prelude.{◌≡◌, length};
 ghost use Rattle.graph_checks.specs.First.{first};
 ghost use Rattle.graph_checks.specs.PatternChecks.{not_finite_at, value_fault};

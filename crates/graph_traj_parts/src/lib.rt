@@ -1,5 +1,7 @@
 // The checks of a trajectory's parts (graph_traj.rs) for a forward and for an adjoint run: rows 13 and 17 of document 01's table, and the
 // chains. Every function answers what its definition in specs/TrajectoryChecks.antt says, for all inputs.
+#![tactic(auto)]
+
 ghost use Rattle.std.specs.Prelude.{◌≡◌};
 ghost use Rattle.graph_traj_parts.specs.Trajectory.{trajectory};
 ghost use Rattle.graph_traj_parts.specs.TrajectoryChecks.{first_breakpoint_fault, one_segment_fault};

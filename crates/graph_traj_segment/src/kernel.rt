@@ -4,7 +4,7 @@ ghost use Rattle.graph_traj_segment.specs.SegmentValue.{segment_with, segment_of
 ghost use Rattle.graph_traj_segment.specs.Times.{c1, c2, step_start, adjoint_step_start, sample_time, fraction};
 
 // A segment of a run: where it starts and ends, the step length tau and the number of the step that comes next.
-#[derive(Drop)]
+#[derive(Clone, Copy)]
 pub struct Segment {
     pub start: f64,
     pub end: f64,

@@ -1,5 +1,7 @@
 // The job program (01): a job on standard input, its text on standard output. A job of more than 16,384 bytes is malformed, whatever
 // follows; so no more than 16,385 are read.
+#![tactic(auto)]
+
 use job_run::run_job;
 use job_text::TEXT;
 use libc::{STDIN_FILENO, STDOUT_FILENO};

@@ -1,4 +1,6 @@
 // Tests of a job's bytes (01, "The job program"): whether a map is allowed, and the byte count that row 21 carries.
+#![tactic(auto)]
+
 ghost use Rattle.std.specs.Prelude.{◌≡◌, min};
 ghost use Rattle.job_checks.specs.Map.{required, allowed};
 

@@ -6,7 +6,7 @@ use job_checks::kernel::stands_in;
 use little_endian::kernel::word16;
 
 // With what a job starts: the map, n and m.
-#[derive(Drop)]
+#[derive(Clone, Copy)]
 pub struct Head {
     pub map: u64,
     pub nodes: usize,

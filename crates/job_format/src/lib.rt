@@ -1,4 +1,6 @@
 // The bytes of a job (01, "The job program"): whether they are well formed, and where their fields start. specs/JobFormat.antt has the format.
+#![tactic(auto)]
+
 ghost use Rattle.error.specs.Refusals.{Answers};
 ghost use Rattle.job_format.specs.JobFormat.{malformed_fault};
 

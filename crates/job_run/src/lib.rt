@@ -1,4 +1,6 @@
 // A job, from its bytes to the text that is printed (01, "The job program").
+#![tactic(auto)]
+
 ghost use Rattle.std.specs.Prelude.{◌≡◌};
 ghost use Rattle.scratch.specs.Parts.{zeros};
 ghost use Rattle.error.specs.declared.Checked.TheVariants.{Accepted};

@@ -19,7 +19,7 @@ use magnus6_graph::apply_exp_omega6_kernel;
 use varcoef_magnus_graph::{apply_exp_omega4_la_adj_kernel, apply_exp_omega4_la_kernel};
 
 // The numbers of a job: tau, the spectral bound and the root bound, whether row 8 is checked, whether the step is adjoint.
-#[derive(Drop)]
+#[derive(Clone, Copy)]
 struct Numbers {
     tau: f64,
     bound: f64,

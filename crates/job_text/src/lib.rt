@@ -1,5 +1,7 @@
 // The text that the job program prints (01, "The job program"), written to the start of an array that the caller lends.
 // specs/Text.antt says what it is.
+#![tactic(auto)]
+
 ghost use Rattle.job_text_numbers.specs.Placed.{Begins};
 ghost use Rattle.job_text.specs.Text.{RefusedText};
 

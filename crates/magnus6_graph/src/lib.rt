@@ -1,5 +1,7 @@
 // The step of order 6 (magnus6_graph.rs, magnus6_graph_helpers.rs; 01, part 9). It takes three samples, each with its own n, row starts,
 // columns and values.
+#![tactic(auto)]
+
 ghost use Rattle.magnus_graph_faults.specs.StepChecks.{sample};
 ghost use Rattle.magnus6_graph_outcome.specs.StepOutcome.{step6_input, Stepped6};
 

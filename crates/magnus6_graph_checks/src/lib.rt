@@ -1,5 +1,7 @@
 // The checks of the step of order 6 (magnus6_graph.rs): those of order 4, and of a third sample. Every function answers what
 // its definition in specs/Step6Checks.antt says, for all inputs.
+#![tactic(auto)]
+
 ghost use Rattle.std.specs.Prelude.{◌≡◌};
 ghost use Rattle.magnus_graph_faults.specs.StepChecks.{sample};
 ghost use Rattle.magnus6_graph_faults.specs.Step6Checks.{samples6_fault, lengths6_fault, step6_fault};

@@ -1,1 +1,2 @@
 // What the step of order 6 answers and leaves, and what demand 3 says of it: definitions and their laws.
+#![tactic(auto)]

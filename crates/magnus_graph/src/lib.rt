@@ -1,5 +1,7 @@
 // Steps of order 4 (magnus_graph.rs, magnus_graph_helpers.rs, magnus_graph_adjoint.rs; 01, parts 6 and 8). A step takes two samples, each
 // with its own n, row starts, columns and values.
+#![tactic(auto)]
+
 ghost use Rattle.magnus_graph_faults.specs.StepChecks.{sample};
 ghost use Rattle.magnus_graph_outcome.specs.StepOutcome.{step_input, Stepped, forward, adjoint};
 

@@ -1,6 +1,8 @@
 // The checks of the steps of order 4 (the validations of the drivers in magnus_graph.rs and magnus_graph_adjoint.rs), one function
 // for each row of document 01's table or two. Every function answers what its definition in magnus_graph_faults'
 // specs/StepChecks.antt says, for all inputs.
+#![tactic(auto)]
+
 ghost use Rattle.std.specs.Prelude.{◌≡◌, not};
 ghost use Rattle.magnus_graph_faults.specs.StepChecks.{not_positive, bound_fault, tau_fault, radius_fault, room_fault};
 ghost use Rattle.magnus_graph_faults.specs.StepChecks.{step_length_fault, lengths_fault};

@@ -1,2 +1,4 @@
 // One term of the Taylor sum of order 4 where both samples have one pattern (magnus_graph_helpers.rs; 01, part 6).
+#![tactic(auto)]
+
 pub mod kernel;

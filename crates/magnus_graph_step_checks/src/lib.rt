@@ -1,5 +1,7 @@
 // The chains of checks of a step of order 4 (the validations of the drivers in magnus_graph.rs and magnus_graph_adjoint.rs), in document 01's order.
 // Every function answers what its definition in magnus_graph_faults' specs/StepChecks.antt says, for all inputs.
+#![tactic(auto)]
+
 ghost use Rattle.std.specs.Prelude.{◌≡◌};
 ghost use Rattle.magnus_graph_faults.specs.StepChecks.{sample, samples_fault, step_fault};
 

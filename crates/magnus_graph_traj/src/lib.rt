@@ -1,4 +1,6 @@
 // Runs along a trajectory: the forward run (magnus_graph.rs; 01, part 10) and the adjoint run (magnus_graph_adjoint.rs; 01, part 8).
+#![tactic(auto)]
+
 ghost use Rattle.graph_traj_parts.specs.Trajectory.{trajectory};
 ghost use Rattle.magnus_graph_traj_outcome.specs.RunOutcome.{forward_run, adjoint_run, Ran};
 

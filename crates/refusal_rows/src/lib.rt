@@ -1,5 +1,7 @@
 // The rows of document 01's table, "What a call answers", as code: the number and the values of each refusal. What tells a refusal to somebody,
 // in a struct or in a text, takes them from here.
+#![tactic(auto)]
+
 ghost use Rattle.std.specs.Prelude.{◌≡◌};
 ghost use Rattle.error.specs.Refusals.{number_of, values_of};
 ghost use Rattle.refusal_rows.specs.Row.{row_number, row_values};
@@ -7,7 +9,7 @@ ghost use Rattle.refusal_rows.specs.Row.{row_number, row_values};
 use error::Refusal;
 
 // A number with its values: one count, one real or two reals.
-#[derive(Drop)]
+#[derive(Clone, Copy)]
 pub enum Row {
     Count(u64, usize),
     Real(u64, f64),

@@ -1,13 +1,15 @@
 // Reading a stored list of test cases from standard input. lists/README.md has the format: each case is its kind in 2 bytes, the length of
 // the rest in 4, and that many bytes of fields; all numbers are little-endian.
 // `replay_fields` reads what a case holds, and compares it with what a call answered and wrote.
+#![tactic(auto)]
+
 ghost use Rattle.std.specs.Prelude.{◌≡◌, ◌≤◌, length, take};
 
 use little_endian::kernel::{word16, word32};
 
 // A case whose fields stand at the start of the buffer, so many bytes; or none: where the list has ended, it is whole there, and where it is
 // no list any more, it is not.
-#[derive(Drop)]
+#[derive(Clone, Copy)]
 pub struct Case {
     pub found: bool,
     pub whole: bool,
@@ -60,7 +62,7 @@ const OUT: i32 = 1;
 const MOST: u64 = 1_000_000;
 
 // How many cases were replayed, how many of them were wrong, and whether the list has ended.
-#[derive(Drop)]
+#[derive(Clone, Copy)]
 pub struct Tally {
     pub cases: u64,
     pub wrong: u64,

@@ -1,4 +1,6 @@
 // What a call must answer, and whether it answered that.
+#![tactic(auto)]
+
 use error::{Checked, Refusal};
 use float_bits::has_bits;
 use refusal_rows::{Row, row_of};
@@ -8,7 +10,7 @@ pub mod texts;
 
 // An answer that is expected: its number, which is 0 for an acceptance and else the row of document 01's table; how many
 // values it has; and the first two of them, a count as a number and a real as its bits.
-#[derive(Drop)]
+#[derive(Clone, Copy)]
 pub struct Answer {
     pub number: u64,
     pub values: u64,

@@ -1,5 +1,7 @@
 // The fields of a case (lists/README.md has the format). A field stands at a position, and every read is defined: past
 // the end of the case a number is 0, and a slice that is longer than its array leads to a position where no case ends.
+#![tactic(auto)]
+
 ghost use Rattle.std.specs.Prelude.{◌≤◌, ◌<◌};
 ghost use Rattle.replay_fields.specs.Counts.{Counts};
 
@@ -46,7 +48,7 @@ pub fn number64(fields: &[u8], at: usize) -> u64 {
 
 // How many elements a slice has, and the position to read at next: that of its first element or, once they are read,
 // that of the field after it.
-#[derive(Drop)]
+#[derive(Clone, Copy)]
 pub struct Slice {
     pub count: usize,
     pub next: usize,
@@ -113,7 +115,7 @@ pub fn read_reals(fields: &[u8], at: usize, target: &mut [f64]) -> Slice
 }
 
 // The parts of a Laplacian: n, how many row starts, columns and values it has, and the position of the field after them.
-#[derive(Drop)]
+#[derive(Clone, Copy)]
 pub struct Parts {
     pub n: usize,
     pub starts: usize,

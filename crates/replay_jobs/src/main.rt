@@ -1,5 +1,7 @@
 // Replays a stored list of jobs: each is run again, and the text is compared with the one expected in every byte, except that the digits
 // of any NaN match those of any NaN.
+#![tactic(auto)]
+
 use job_run::run_job;
 use job_text::TEXT;
 use replay::{Tally, next_case};

@@ -1,4 +1,6 @@
 // The cases at the limits of row 6, whose networks are too large for a list.
+#![tactic(auto)]
+
 use float_bits::has_bits;
 use graph::{Bounded, apply_into_slice, from_csr_parts, gershgorin_bound_csr};
 use replay_answers::{Answer, acceptance, is_acceptance, is_checked, is_refusal, size_refusal};

@@ -1,5 +1,7 @@
 // Replays a stored list of calls on networks and signals: each call is made again, and its answer and the slice that it
 // writes are compared in every bit. Any NaN matches any NaN. After the list come the cases that are too large for one.
+#![tactic(auto)]
+
 use crate::networks::network_right;
 use crate::signals::signal_right;
 use replay::{Tally, next_case};

@@ -1,4 +1,6 @@
 // Replays a stored list of square roots: each root is worked out again and compared in every bit. Any NaN matches any NaN.
+#![tactic(auto)]
+
 use float_bits::{from_bits, has_bits};
 use little_endian::kernel::word64;
 use replay::{Tally, next_case};

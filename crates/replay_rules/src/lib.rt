@@ -1,5 +1,7 @@
 // The slices of a case that is given by rules, kinds 16 to 19 (lists/README.md has the rules). Where a slice does not fit its target, it is
 // taken as empty, and leads to a position at which no case ends.
+#![tactic(auto)]
+
 ghost use Rattle.std.specs.Prelude.{◌≤◌, ◌<◌};
 ghost use Rattle.replay_fields.specs.Counts.{Counts};
 
@@ -156,7 +158,7 @@ fn make_columns(n: usize, entries: usize, stride: usize, target: &mut [u32]) -> 
 }
 
 // The parts of a pattern: n, how many row starts and columns it has, and the position of the field after them.
-#[derive(Drop)]
+#[derive(Clone, Copy)]
 pub struct Pattern {
     pub n: usize,
     pub starts: usize,

@@ -11,7 +11,7 @@ pub fn is_forward(kind: u64) -> bool {
 
 // The numbers of a run: the step length, how many steps there are, in each segment of a forward run, the spectral bound, the bound of the
 // weights' roots, whether row 8 is checked, and the position of the field after them.
-#[derive(Drop)]
+#[derive(Clone, Copy)]
 pub struct Numbers {
     pub tau: f64,
     pub steps: usize,

@@ -43,7 +43,7 @@ pub fn cleared_by(kind: u64, expected: Answer, steps: usize, n: usize, m: usize)
 }
 
 // The work slice before a run: how many elements it has, the bits of each, and the position of the field after it.
-#[derive(Drop)]
+#[derive(Clone, Copy)]
 pub struct Work {
     pub count: usize,
     pub bits: u64,

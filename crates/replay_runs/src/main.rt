@@ -1,5 +1,7 @@
 // Replays a stored list of lookups and runs along trajectories: each call is made again, and its answer and the slices that it writes are
 // compared in every bit. Any NaN matches any NaN.
+#![tactic(auto)]
+
 use crate::runs::run_right;
 use replay::{Tally, next_case};
 use replay_run_fields::lookups::lookup_right;

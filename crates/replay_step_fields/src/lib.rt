@@ -1,4 +1,6 @@
 // What a case of a step holds beside its first two samples and its signal, and what the step must leave.
+#![tactic(auto)]
+
 pub mod numbers;
 pub mod order6;
 pub mod rooms;

@@ -6,7 +6,7 @@ use replay_fields::{further, number64};
 
 // The numbers of a step: its length, the spectral bound, the bound of the weights' roots, whether row 8 is checked, and
 // the position of the field after them.
-#[derive(Drop)]
+#[derive(Clone, Copy)]
 pub struct Numbers {
     pub tau: f64,
     pub rho_bar_max: f64,

@@ -13,7 +13,7 @@ const MOST_WORK: usize = 24576;
 const MOST_NODES: usize = 4096;
 
 // The work slice before a step: its length, the bits of each element, and the position of the field after it.
-#[derive(Drop)]
+#[derive(Clone, Copy)]
 pub struct Work {
     pub length: usize,
     pub bits: u64,

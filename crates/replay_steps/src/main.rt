@@ -1,5 +1,7 @@
 // Replays a stored list of steps of orders 4 and 6: each call is made again, and its answer and the slices that it writes are
 // compared in every bit. Any NaN matches any NaN.
+#![tactic(auto)]
+
 use crate::steps::step_right;
 use replay::{Tally, next_case};
 

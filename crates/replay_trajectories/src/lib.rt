@@ -1,4 +1,6 @@
 // The fields of a trajectory: as they stand in the case, or by rules. Each slice is read to the start of its target.
+#![tactic(auto)]
+
 ghost use Rattle.replay_fields.specs.Counts.{Counts};
 
 use replay_fields::{Slice, further, number32, number64, read_columns, read_counts, read_reals};

@@ -1,2 +1,4 @@
 // Products of vectors within one lent work slice (scratch.rs).
+#![tactic(auto)]
+
 pub mod kernel;

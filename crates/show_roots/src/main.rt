@@ -1,4 +1,6 @@
 // Prints the square roots of a few values: the bit pattern of each, and that of its root.
+#![tactic(auto)]
+
 use float_bits::from_bits;
 use square_root::sqrt;
 

@@ -1,4 +1,6 @@
 // The square root of an f64, as IEEE 754 has it: to nearest, ties to even (01, part 4). It is worked out from the bits.
+#![tactic(auto)]
+
 ghost use Rattle.std.specs.Prelude.{◌≡◌};
 ghost use Rattle.std.specs.Float.{binary64};
 ghost use Rattle.ieee_square_root.specs.SquareRoot.{square_root};

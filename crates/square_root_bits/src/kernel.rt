@@ -11,7 +11,7 @@ ghost use Rattle.ieee_square_root.specs.Steps.{half_down, Normalized, Scaled, Pa
 use square_root_digits::kernel::{HIDDEN, settled};
 
 // A value above zero: significand · 2^(exponent − 52), its significand at least 2^52 and below 2^53.
-#[derive(Drop)]
+#[derive(Clone, Copy)]
 pub struct Normal {
     pub significand: u64,
     pub exponent: i64,
@@ -46,7 +46,7 @@ pub fn floor_half(exponent: i64) -> i64
 }
 
 // A value above zero with its exponent halved: digits · 2^(2·half − 52).
-#[derive(Drop)]
+#[derive(Clone, Copy)]
 pub struct Radicand {
     pub digits: u64,
     pub half: i64,

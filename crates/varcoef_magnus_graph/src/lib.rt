@@ -1,5 +1,7 @@
 // Steps of order 4 on graphs with node weights (varcoef_magnus_graph.rs; 01, parts 7 and 8): a step takes two samples, each with its own n, row
 // starts, columns and values, and the weights a1 and a2 of the nodes at the two sample times.
+#![tactic(auto)]
+
 ghost use Rattle.magnus_graph_outcome.specs.StepOutcome.{forward, adjoint};
 ghost use Rattle.magnus_graph_faults.specs.StepChecks.{sample};
 ghost use Rattle.varcoef_magnus_graph_outcome.specs.StepOutcome.{step_input, Stepped};

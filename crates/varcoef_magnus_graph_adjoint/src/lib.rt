@@ -1,4 +1,6 @@
 // The weighted adjoint run along a trajectory (magnus_graph_adjoint.rs; 01, parts 7, 8 and 10).
+#![tactic(auto)]
+
 ghost use Rattle.graph_traj_parts.specs.Trajectory.{trajectory};
 ghost use Rattle.magnus_graph_traj_outcome.specs.RunOutcome.{Ran};
 ghost use Rattle.varcoef_magnus_graph_adjoint.specs.WeightedRunOutcome.{weighted_adjoint_run};

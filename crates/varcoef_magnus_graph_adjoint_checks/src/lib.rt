@@ -1,5 +1,7 @@
 // The checks of the weighted adjoint run (the validations of its driver in magnus_graph_adjoint.rs), in document 01's order, before any step.
 // Every function answers what its definition in graph_traj_adjoint_faults' specs/AdjointRunChecks.antt says, for all inputs.
+#![tactic(auto)]
+
 ghost use Rattle.std.specs.Prelude.{◌≡◌};
 ghost use Rattle.graph_traj_parts.specs.Trajectory.{trajectory};
 ghost use Rattle.graph_traj_adjoint_faults.specs.AdjointRunChecks.{weighted_run_lengths_fault};

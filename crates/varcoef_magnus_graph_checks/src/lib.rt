@@ -1,5 +1,7 @@
 // The checks of node weights (varcoef_magnus_graph.rs), one function for each row of document 01's table: rows 11 and 12 and the rows of the
 // weights' lengths and bounds. Every function answers what its definition in varcoef_magnus_graph_faults' specs/WeightedStepChecks.antt says, for all inputs.
+#![tactic(auto)]
+
 ghost use Rattle.std.specs.Prelude.{◌≡◌, not, length};
 ghost use Rattle.float.specs.All.{all};
 ghost use Rattle.graph_checks.specs.First.{first};

@@ -1,1 +1,2 @@
 // The faults of the weighted steps in the order of document 01, and what a step without a fault has: definitions and their laws.
+#![tactic(auto)]

@@ -1,5 +1,7 @@
 // All checks of a weighted step of order 4 (the validation of the driver in varcoef_magnus_graph.rs), in document 01's order. It answers what its
 // definition in varcoef_magnus_graph_faults' specs/WeightedStepChecks.antt says, for all inputs.
+#![tactic(auto)]
+
 ghost use Rattle.std.specs.Prelude.{◌≡◌};
 ghost use Rattle.magnus_graph_faults.specs.StepChecks.{sample};
 ghost use Rattle.varcoef_magnus_graph_faults.specs.WeightedStepChecks.{weighted_step_fault};

@@ -5,13 +5,13 @@ use Rattle.error.proofs.Left.{answers}
 use Rattle.error.proofs.check_length.Statement.{statement}
 use Rattle.error.proofs.check_length.Tie as tie
 
-returns : tie.Need-returns
+returns : tie.Need-returns-then-length-n
 unfolding length_fault
-returns c = answers (accepts-equal _ _ _ c.if1.true)
+returns c = answers (accepts-equal _ _ _ c.if-length-n.true)
 
-returns-2 : tie.Need-returns-2
+returns-2 : tie.Need-returns-else-length-n
 unfolding length_fault
-returns-2 c = answers (refuses-unequal _ _ _ c.if1.false)
+returns-2 c = answers (refuses-unequal _ _ _ c.if-length-n.false)
 
-pub check-length-spec : {M : Type 1} → statement M
-check-length-spec = tie.close (tie.spec returns returns-2)
+pub check_length_spec : {M : Type 1} → statement M
+check_length_spec = tie.close (tie.spec returns returns-2)

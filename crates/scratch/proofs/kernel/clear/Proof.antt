@@ -8,42 +8,42 @@ use Rattle.scratch.proofs.Writing.{Written, written_none, written_next, written_
 use Rattle.scratch.proofs.kernel.clear.Statement.{statement}
 use Rattle.scratch.proofs.kernel.clear.Tie as tie
 
-abbrev invariant-loop : tie.invariant-loop
-invariant-loop work₀ need i₀ work i = Written 0 (λ k. (ieee binary64).zero) need work₀ i work
+abbrev invariant-loop-i : tie.invariant-loop-i
+invariant-loop-i work₀ need i₀ work i = Written 0 (λ k. (ieee binary64).zero) need work₀ i work
 
-abbrev decreases-loop : tie.decreases-loop
-decreases-loop work₀ need i₀ work i = need - i
+abbrev decreases-loop-i : tie.decreases-loop-i
+decreases-loop-i work₀ need i₀ work i = need - i
 
-loop-holds : tie.Need-loop-init invariant-loop decreases-loop
+loop-holds : tie.Need-loop-i-init invariant-loop-i decreases-loop-i
 loop-holds c = written_none _ _ _ _
 
-mul-work : tie.Need-overflow-mul-work invariant-loop decreases-loop
+mul-work : tie.Need-offset_bounds-work-i invariant-loop-i decreases-loop-i
 mul-work c = omega arith
 
-slice-write-work : tie.Need-slice-write-work invariant-loop decreases-loop
+slice-write-work : tie.Need-bounds-work-i invariant-loop-i decreases-loop-i
 slice-write-work c = omega arith
 
-add-i : tie.Need-overflow-add-i invariant-loop decreases-loop
+add-i : tie.Need-overflow_step-i invariant-loop-i decreases-loop-i
 add-i c = omega arith
 
-loop-less : tie.Need-loop-smaller invariant-loop decreases-loop
+loop-less : tie.Need-loop-i-smaller invariant-loop-i decreases-loop-i
 loop-less c = omega arith
 
-loop-again : tie.Need-loop-preserved invariant-loop decreases-loop
-loop-again c = written_next c.before.loop.invariant (omega arith) _ _ (omega arith) refl
+loop-again : tie.Need-loop-i-preserved invariant-loop-i decreases-loop-i
+loop-again c = written_next c.before.loop-i.invariant (omega arith) _ _ (omega arith) refl
 
-same_length : tie.Need-same-length invariant-loop decreases-loop
-same_length c = c.before.loop.invariant.length-kept
+same_length : tie.Need-shape_of-work invariant-loop-i decreases-loop-i
+same_length c = c.before.loop-i.invariant.length-kept
 
-returns : tie.Need-returns invariant-loop decreases-loop
-returns c = written_all c.before.loop.invariant c.loop-test.false refl
+returns : tie.Need-returns invariant-loop-i decreases-loop-i
+returns c = written_all c.before.loop-i.invariant c.loop-i-test.false refl
 
 pub clear_spec : {M : Type 1} → statement M
 clear_spec =
     tie.close
     (tie.spec
-    invariant-loop
-    decreases-loop
+    invariant-loop-i
+    decreases-loop-i
     loop-holds
     mul-work
     slice-write-work
