@@ -4,7 +4,9 @@
 usage: tools/tie_names.py CRATE..      run at the top of the repository; crates below each must be built
 
 `rt check --generated` lists, for each function, what each goal, step and place was called and is called. A name is looked
-up with - for _, and a goal also without the word overflow, which older goals carried.
+up with - for _, and a goal also without the word overflow, which older goals carried. A step is a field of the goal's own
+record now, wherever it stands in the code before: so `c.before.before.f.ensures` becomes `c.f.ensures`, and a `let` that
+only names such a record goes.
 """
 
 import json
@@ -14,9 +16,15 @@ import subprocess
 import sys
 import tempfile
 
+START = {"args", "requires", "ranges", "well-formed"}
+
 
 def plain(name):
     return name.replace("_", "-").replace("\u00ab", "").replace("\u00bb", "")
+
+
+def rust(fields):
+    return [f.replace("-", "_") for f in fields]
 
 
 def names_of(crate):
@@ -31,43 +39,165 @@ def names_of(crate):
             return json.load(f)
 
 
+class Names:
+    def __init__(self, v):
+        self.needs, self.steps, self.arms = {}, {}, {}
+        for old, new in v["needs"]:
+            self.needs.setdefault(plain(old), new)
+        for old, new in v["needs"]:
+            self.needs.setdefault(plain(new), new)
+        for p, arm in zip(v["places"], v["arms"]):
+            if arm:
+                for field, old, path in arm[2]:
+                    self.arms.setdefault((plain(old), tuple(path)), (arm[0], field))
+            if p[2][0]:
+                self.steps.setdefault(plain(p[2][0]), p[2][1])
+        self.parent = {plain(p[0]): p[1] and plain(p[1]) for p in v["places"]}
+        self.merged = {plain(p[0]): (arm[1] if arm else 1) for p, arm in zip(v["places"], v["arms"])}
+        self.asked_at = {plain(n[0]): plain(at[0]) for n, at in zip(v["needs"], v["asked_at"])}
+        self.places = {plain(p[0]): n for p, n in zip(v["places"], v["places_by_name"])}
+        self.loops = {plain(l[0][0]): l[0][1] for l in v["loops"]}
+        self.variables = {plain(name): name for l in v["loops"] for name in l[1]}
+
+    def place_of(self, block):
+        """The place of the record c in an answer or a helper."""
+        m = re.search(r"\.Need-([\w'\-]+)", block)
+        if m:
+            return self.asked_at.get(self.old_name(plain(m.group(1))))
+        m = re.search(r"\(c : [\w'\-]+\.([A-Z][\w'\-]*)\)", block)
+        return plain(m.group(1)) if m and plain(m.group(1)) in self.parent else None
+
+    def asked(self, name):
+        name = self.old_name(plain(name))
+        return self.needs[name] if name else None
+
+    def old_name(self, name):
+        """What the list calls a goal that a file calls name: a kind stood before it there."""
+        m = re.match(r"(?:overflow|nonzero|slice-bounds)-(.*)", name)
+        for n in ([m.group(1), "part-" + m.group(1)] if m else []) + [name]:
+            if n in self.needs:
+                return n
+        return None
+
+    def up(self, place, k):
+        for _ in range(k):
+            place = self.parent.get(place) if place else None
+        return place
+
+    def befores(self, place, above):
+        """How many records lie from one place to one above it now."""
+        k = 0
+        while place != above:
+            if place is None:
+                return None
+            place, k = self.up(place, self.merged[place]), k + 1
+        return k
+
+    def step(self, name, path):
+        """The path to a field of the step that was called name."""
+        name = plain(name)
+        for k in range(len(path), 0, -1):
+            if (name, tuple(path[:k])) in self.arms:
+                arm, field = self.arms[name, tuple(path[:k])]
+                return [arm, field] + path[k:]
+        if name in self.steps:
+            return [self.steps[name]] + path
+        return None
+
+
+PATH = r"(?<![\w'\-.])(%s)(?![\w'\-])((?:\.before)*)((?:\.[\w'\-\u00ab\u00bb]+)*)"
+
+
+def turn_paths(text, names, missing):
+    """In one answer: names of records go, and steps are fields of c."""
+    aliases, at = ["c"], {"c": names.place_of(text)}
+
+    def chain(base, befores):
+        old = names.up(at.get(base), befores)
+        k = names.befores(at["c"], old) if old else None
+        return (old, "c" + ".before" * k) if k is not None else (old, None)
+
+    while True:
+        m = re.search(r"\blet (\w[\w'\-]*)(?: : tie\.[\w'\-]+)? = (" + "|".join(map(re.escape, aliases)) + r")((?:\.before)*) in[ \n]*", text)
+        if not m:
+            break
+        name = m.group(1)
+        rest = text[m.end():]
+        old, now = chain(m.group(2), m.group(3).count(".before"))
+        at[name] = old
+        bare = re.search(r"(?<![\w'\-.])" + re.escape(name) + r"(?![\w'\-.])", rest)
+        if bare or name in aliases:
+            if now is None:
+                missing.append(f"the record {name}")
+                now = m.group(2) + m.group(3)
+            shown = m.group(0)[3:].replace(m.group(2) + m.group(3) + " in", now.replace("c", "\1", 1) + " in")
+            text = text[:m.start()] + "\0" + shown + rest
+            if name not in aliases:
+                aliases.append(name)
+            continue
+        aliases.append(name)
+        text = text[:m.start()] + rest
+
+    def path(m):
+        fields = [f for f in m.group(3).split(".") if f]
+        if not fields:
+            old, now = chain(m.group(1), m.group(2).count(".before"))
+            if m.group(2) and now is None:
+                missing.append(m.group(0))
+            return now if m.group(2) and now else m.group(0)
+        if plain(fields[0]) in START:
+            return "c." + ".".join(rust(fields[:2]) + fields[2:])
+        to = names.step(fields[0], fields[1:])
+        if to is None:
+            missing.append(".".join(fields))
+            return m.group(0)
+        if to[0] in names.loops.values() and len(to) > 1 and plain(to[1]) in names.variables:
+            to[1] = names.variables[plain(to[1])]
+        return "c." + ".".join(to)
+
+    text = re.sub(PATH % "|".join(map(re.escape, aliases)), path, text)
+    for m in re.findall(r"\blet (\w[\w'\-]*) = c\.args in", text):
+        text = re.sub(r"(?<![\w'\-.])" + re.escape(m) + r"\.([\w'\-]+)", lambda x: m + "." + x.group(1).replace("-", "_"), text)
+    return text.replace("\0", "let").replace("\1", "c")
+
+
 def turn(text, v, function):
-    needs = {}
-    for old, new in v["needs"]:
-        needs.setdefault(plain(old), new)
-        needs.setdefault(plain(new), new)
-    steps = {}
-    for p in v["places"]:
-        if p[2][0]:
-            steps.setdefault(plain(p[2][0]), p[2][1])
-    places = {plain(p[0]): n for p, n in zip(v["places"], v["places_by_name"])}
-    loops = {plain(l[0][0]): l[0][1] for l in v["loops"]}
-    missing = []
+    names, missing = Names(v), []
 
     def need(m):
-        name = plain(m.group(1))
-        for n in (name, name.replace("overflow-", "", 1) if name.startswith("overflow-") else name):
-            if n in needs:
-                return "tie.Need-" + needs[n]
-        missing.append(m.group(1))
+        now = names.asked(m.group(2))
+        if now is not None:
+            return m.group(1) + ".Need-" + now
+        missing.append(m.group(2))
         return m.group(0)
 
     def of_loop(m):
         name = plain(m.group(2))
-        return f"{m.group(1)}-{loops[name]}" if name in loops else m.group(0)
+        return f"{m.group(1)}-{names.loops[name]}" if name in names.loops else m.group(0)
 
     def place(m):
         name = plain(m.group(1))
-        return "tie." + places[name] if name in places else m.group(0)
+        return "tie." + names.places[name] if name in names.places else m.group(0)
 
-    def step(m):
-        name = plain(m.group(1))
-        return "." + steps[name] if name in steps else m.group(0)
-
-    text = re.sub(r"tie\.Need-([\w'\-]+)", need, text)
+    blocks = re.split(r"(\n\n+)", text)
+    gone = []
+    for i, b in enumerate(blocks):
+        m = re.match(r"((?:--.*\n)*)([\w'\-]+) :\s", b)
+        n = re.search(r"\.Need-([\w'\-]+)", b)
+        if m and n and names.asked(n.group(1)) is None:
+            gone.append((m.group(2), n.group(1)))
+            blocks[i] = ""
+            if i + 1 < len(blocks):
+                blocks[i + 1] = ""
+    blocks = [turn_paths(b, names, missing) if re.search(r"(?m)^[\w'\-]+ (?:t )?c\b", b) else b for b in blocks]
+    text = "".join(blocks)
+    for name, goal in gone:
+        text = re.sub(r"\s+(?:\(" + re.escape(name) + r" t\)|" + re.escape(name) + r")(?=[\s)])", "", text)
+        print(f"    {function}: no goal {goal} any more: {name} goes")
+    text = re.sub(r"([\w'\-]+)\.Need-([\w'\-]+)", need, text)
     text = re.sub(r"\b(invariant|decreases)-([\w'\-]+)", of_loop, text)
     text = re.sub(r"tie\.((?!Need-)[A-Z][\w'\-]*)", place, text)
-    text = re.sub(r"(?<=[\w')])\.([a-z][\w'\-]*)(?=[.\s),;])", step, text)
+    text = re.sub(r"\.type-inv(?![\w'\-])", ".type_inv", text)
     spec = plain(function) + "-spec"
     text = re.sub(r"(?<![\w'\-])" + re.escape(spec) + r"(?![\w'\-])", function + "_spec", text)
     return text, missing
@@ -80,7 +210,7 @@ def main(crates):
         if names is None:
             continue
         for key, v in names.items():
-            m = re.match(rf"Rattle-{crate}-proofs\.(.+)\.Lts$", key)
+            m = re.match(rf"Rattle-{crate}-proofs\.(.+)\.Lts(?:-[\w]+)?$", key)
             if not m:
                 continue
             folder = m.group(1).replace(".", "/")

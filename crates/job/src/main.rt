@@ -4,7 +4,10 @@
 
 use job_run::run_job;
 use job_text::TEXT;
-use libc::{STDIN_FILENO, STDOUT_FILENO};
+
+const STDIN_FILENO: i32 = 0;
+
+const STDOUT_FILENO: i32 = 1;
 
 fn main() {
     let mut job = [0u8; 16385];

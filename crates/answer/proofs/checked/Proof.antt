@@ -7,20 +7,20 @@ use Rattle.answer.specs.Struct.{struct_of}
 use Rattle.answer.proofs.checked.Statement.{statement}
 use Rattle.answer.proofs.checked.Tie as tie
 
-enum_told : tie.Need-enum-told
+enum_told : tie.Need-enum_told-1
 enum_told c = search rules
 
-enum-known-answer : tie.Need-enum-known-answer
+enum-known-answer : tie.Need-enum_known-answer
 enum-known-answer c = search rules
 
 refused-requires : tie.Need-refused-requires
 refused-requires c κs = search rules
 
-returns : tie.Need-returns
-returns c = ap (λ (a : Checked). struct_of a []) (sym c.enum_told.given.1)
+returns : tie.Need-returns-in-Accepted
+returns c = ap (λ (a : Checked). struct_of a []) (sym c.in-Accepted.is)
 
-returns-2 : tie.Need-returns-2
-returns-2 c = c.refused.ensures ∙ ap (λ (a : Checked). struct_of a []) (sym c.before.before.answer.given.1)
+returns-2 : tie.Need-returns-in-Refused
+returns-2 c = c.refused.ensures ∙ ap (λ (a : Checked). struct_of a []) (sym c.in-Refused.is)
 
-pub checked-spec : {M : Type 1} → statement M
-checked-spec = tie.close (tie.spec enum_told enum-known-answer refused-requires returns returns-2)
+pub checked_spec : {M : Type 1} → statement M
+checked_spec = tie.close (tie.spec enum_told enum-known-answer refused-requires returns returns-2)

@@ -12,14 +12,14 @@ same-struct : {number number' : ℕ} {values values' : List Carried} → number 
     → laid_out number values ≡ laid_out number' values'
 same-struct number values = rw (number, values)
 
-row-of-requires : tie.Need-row-of-requires
+row-of-requires : tie.Need-row_of-requires
 row-of-requires c κs = search rules
 
-laid-out-requires : tie.Need-laid-out-requires
+laid-out-requires : tie.Need-laid_out-requires
 laid-out-requires c κs = search rules
 
 returns : tie.Need-returns
-returns c = let row = c.before.row_of.ensures in c.laid_out.ensures ∙ same-struct row.0 row.1
+returns c = let row = c.row_of.ensures in c.laid_out.ensures ∙ same-struct row.0 row.1
 
-pub refused-spec : {M : Type 1} → statement M
-refused-spec = tie.close (tie.spec row-of-requires laid-out-requires returns)
+pub refused_spec : {M : Type 1} → statement M
+refused_spec = tie.close (tie.spec row-of-requires laid-out-requires returns)

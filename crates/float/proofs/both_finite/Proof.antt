@@ -6,5 +6,5 @@ use Rattle.float.proofs.both_finite.Tie as tie
 returns : tie.Need-returns
 returns c = finite-by-two-differences c.args.x c.args.y
 
-pub both-finite-spec : {M : Type 1} → statement M
-both-finite-spec = tie.close (tie.spec returns)
+pub both_finite_spec : {M : Type 1} → statement M
+both_finite_spec = tie.close (tie.spec returns)

@@ -12,17 +12,17 @@ zero-quotient : div binary64 (of_bits binary64 0) (of_bits binary64 0) ≡ nan
 unfolding div of_bits
 zero-quotient = refl
 
-is-nan-pattern-requires : tie.Need-is-nan-pattern-requires
+is-nan-pattern-requires : tie.Need-is_nan_pattern-requires
 is-nan-pattern-requires c κs = search rules
 
-float-from-bits-result : tie.Need-float-from-bits-result
-float-from-bits-result c = subst (λ (b : Bool). T (not b)) (sym c.if1.false ∙ c.before.is-nan-pattern.ensures) tt
+float-from-bits-result : tie.Need-float_from_bits-result
+float-from-bits-result c = subst (λ (b : Bool). T (not b)) (sym c.if-is_nan_pattern.false ∙ c.is_nan_pattern.ensures) tt
 
-returns : tie.Need-returns
-returns c = zero-quotient ∙ sym (nan_pattern binary64 _ (sym c.before.is-nan-pattern.ensures ∙ c.if1.true))
+returns : tie.Need-returns-then-is_nan_pattern
+returns c = zero-quotient ∙ sym (nan_pattern binary64 _ (sym c.is_nan_pattern.ensures ∙ c.if-is_nan_pattern.true))
 
-returns-2 : tie.Need-returns-2
+returns-2 : tie.Need-returns-else-is_nan_pattern
 returns-2 c = search rules
 
-pub from-bits-spec : {M : Type 1} → statement M
-from-bits-spec = tie.close (tie.spec is-nan-pattern-requires float-from-bits-result returns returns-2)
+pub from_bits_spec : {M : Type 1} → statement M
+from_bits_spec = tie.close (tie.spec is-nan-pattern-requires float-from-bits-result returns returns-2)

@@ -35,28 +35,27 @@ module _ (x : Float) (b : ℕ) where
         (ap (to_bits binary64) p ∙ to_bits-of_bits binary64 b l (subst (λ (t : Bool). T (not t)) (sym n ∙ nan_bits_is binary64 b) tt))),
   )
 
-is-nan-pattern-requires : tie.Need-is-nan-pattern-requires
+is-nan-pattern-requires : tie.Need-is_nan_pattern-requires
 is-nan-pattern-requires c κs = search rules
 
-returns : tie.Need-returns
-returns c = nan-matches _ _ c.before.if1.true _ c.is-nan-pattern.ensures
+returns : tie.Need-returns-then-x
+returns c = nan-matches _ _ c.if-x.true _ c.is_nan_pattern.ensures
 
-is-nan-pattern-requires-2 : tie.Need-is-nan-pattern-requires-2
+is-nan-pattern-requires-2 : tie.Need-is_nan_pattern-requires-2
 is-nan-pattern-requires-2 c κs = search rules
 
-returns-2 : tie.Need-returns-2
-returns-2 c = number-differs _ _ c.before.before.if1.false (sym c.before.is-nan-pattern2.ensures ∙ c.if2.true)
+returns-2 : tie.Need-returns-then-is_nan_pattern
+returns-2 c = number-differs _ _ c.if-x.false (sym c.is_nan_pattern-2.ensures ∙ c.if-is_nan_pattern.true)
 
-float-to-bits-result : tie.Need-float-to-bits-result
-float-to-bits-result c = equal-to-itself _ c.before.before.if1.false
+float-to-bits-result : tie.Need-float_to_bits-result
+float-to-bits-result c = equal-to-itself _ c.if-x.false
 
-returns-3 : tie.Need-returns-3
+returns-3 : tie.Need-returns
 returns-3 c =
-    let s = c.before.before.before in
-    number-matches _ _ (subst T (sym s.well-formed.0.1) tt) s.ranges.bits.fits (sym c.before.is-nan-pattern2.ensures ∙ c.if2.false)
+    number-matches _ _ (subst T (sym c.well_formed.0.1) tt) c.ranges.bits.fits (sym c.is_nan_pattern-2.ensures ∙ c.if-is_nan_pattern.false)
 
-pub has-bits-spec : {M : Type 1} → statement M
-has-bits-spec =
+pub has_bits_spec : {M : Type 1} → statement M
+has_bits_spec =
     tie.close
     (tie.spec
     is-nan-pattern-requires

@@ -8,5 +8,5 @@ use Rattle.float_bits.proofs.is_nan_pattern.Tie as tie
 returns : tie.Need-returns
 returns c = sym (nan_bits_above binary64 c.args.bits)
 
-pub is-nan-pattern-spec : {M : Type 1} → statement M
-is-nan-pattern-spec = tie.close (tie.spec returns)
+pub is_nan_pattern_spec : {M : Type 1} → statement M
+is_nan_pattern_spec = tie.close (tie.spec returns)

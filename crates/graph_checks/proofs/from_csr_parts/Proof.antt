@@ -14,93 +14,85 @@ use Rattle.graph_checks.proofs.from_csr_parts.Statement.{statement}
 use Rattle.graph_checks.proofs.from_csr_parts.Tie as tie
 
 -- what the accepted shape has
-rows : (c : tie.After-enum-told)
-    → Rows c.before.before.before.before.before.before.args.n
-    c.before.before.before.before.before.before.args.row-ptr.now
-    (length c.before.before.before.before.before.before.args.col-idx.now)
-rows c = (shape-accepted _ _ _).0 (sym c.before.before.check-shape.ensures ∙ c.enum_told.given.1)
+rows : (c : tie.In-Accepted)
+    → Rows c.args.n
+    c.args.row_ptr.now
+    (length c.args.col_idx.now)
+rows c = (shape-accepted _ _ _).0 (sym c.check_shape-shape.ensures ∙ c.in-Accepted.is)
 
-check-shape-requires : tie.Need-check-shape-requires
+check-shape-requires : tie.Need-check_shape-shape-requires
 check-shape-requires c κs = search rules
 
-enum_told : tie.Need-enum-told
+enum_told : tie.Need-enum_told-1
 enum_told c = search rules
 
-enum-told-2 : tie.Need-enum-told-2
+enum-told-2 : tie.Need-enum_told-in_default
 enum-told-2 c = search rules
 
-returns : tie.Need-returns
+returns : tie.Need-returns-in_default
 unfolding csr_fault
 returns c =
     answers
-    (refused-here _ _ _ _ c.before.before.check-shape.ensures c.enum-told2.given.1)
+    (refused-here _ _ _ _ c.check_shape-shape.ensures c.in_default.is)
 
-mul-check-entry-count : tie.Need-overflow-mul-check-entry-count
+mul-check-entry-count : tie.Need-offset_bounds-row_ptr-n
 mul-check-entry-count c =
     let r = rows c in
-    let start = c.before.before.before.before.before.before in
-    let h : start.args.n < length start.args.row-ptr.now = omega arith in
+    let h : c.args.n < length c.args.row_ptr.now = omega arith in
     search rules
 
-shared-slice-read-check-entry-count : tie.Need-shared-slice-read-check-entry-count
+shared-slice-read-check-entry-count : tie.Need-bounds-row_ptr-n
 shared-slice-read-check-entry-count c = let r = rows c.before in omega arith
 
-check-entry-count-requires : tie.Need-check-entry-count-requires
+check-entry-count-requires : tie.Need-check_entry_count-count-requires
 check-entry-count-requires c κs = search rules
 
-enum-told-3 : tie.Need-enum-told-3
+enum-told-3 : tie.Need-enum_told-in-Accepted-count
 enum-told-3 c = search rules
 
-enum-told-4 : tie.Need-enum-told-4
+enum-told-4 : tie.Need-enum_told-in_default-count
 enum-told-4 c = search rules
 
-returns-2 : tie.Need-returns-2
+returns-2 : tie.Need-returns-in_default-count
 unfolding csr_fault
 returns-2 c =
-    let shape = c.before.before.before.before in
     answers
-    (accepted-then _ _ _ _ shape.before.before.check-shape.ensures shape.enum_told.given.1
-    (refused-here _ _ _ _ c.before.before.check-entry-count.ensures c.enum-told4.given.1))
+    (accepted-then _ _ _ _ c.check_shape-shape.ensures c.in-Accepted.is
+    (refused-here _ _ _ _ c.check_entry_count-count.ensures c.in_default-count.is))
 
-check-columns-requires : tie.Need-check-columns-requires
-check-columns-requires c κs = rows c.before.before.before.before
+check-columns-requires : tie.Need-check_columns-columns-requires
+check-columns-requires c κs = rows c.before.before.before
 
-enum-told-5 : tie.Need-enum-told-5
+enum-told-5 : tie.Need-enum_told-in-Accepted-columns
 enum-told-5 c = search rules
 
-enum-told-6 : tie.Need-enum-told-6
+enum-told-6 : tie.Need-enum_told-in_default-columns
 enum-told-6 c = search rules
 
-returns-3 : tie.Need-returns-3
+returns-3 : tie.Need-returns-in_default-columns
 unfolding csr_fault
 returns-3 c =
-    let count = c.before.before.before in
-    let shape = count.before.before.before.before in
     answers
-    (accepted-then _ _ _ _ shape.before.before.check-shape.ensures shape.enum_told.given.1
-    (accepted-then _ _ _ _ count.before.before.check-entry-count.ensures count.enum-told3.given.1
-    (refused-here _ _ _ _ c.before.before.check-columns.ensures c.enum-told6.given.1)))
+    (accepted-then _ _ _ _ c.check_shape-shape.ensures c.in-Accepted.is
+    (accepted-then _ _ _ _ c.check_entry_count-count.ensures c.in-Accepted-count.is
+    (refused-here _ _ _ _ c.check_columns-columns.ensures c.in_default-columns.is)))
 
-check-values-requires : tie.Need-check-values-requires
+check-values-requires : tie.Need-check_values-requires
 check-values-requires c κs =
-    let count = c.before.before.before in
-    rows-of-values _ (rows count.before.before.before.before)
-    (sym count.before.before.check-entry-count.ensures ∙ count.enum-told3.given.1)
+    rows-of-values _ (rows c.before.before.before.before.before)
+    (sym c.check_entry_count-count.ensures ∙ c.in-Accepted-count.is)
 
-returns-4 : tie.Need-returns-4
+returns-4 : tie.Need-returns
 unfolding csr_fault
 returns-4 c =
-    let columns = c.before in
-    let count = columns.before.before.before in
-    let shape = count.before.before.before.before in
     answers
-    (accepted-then _ _ _ _ shape.before.before.check-shape.ensures shape.enum_told.given.1
-    (accepted-then _ _ _ _ count.before.before.check-entry-count.ensures count.enum-told3.given.1
-    (accepted-then _ _ _ _ columns.before.before.check-columns.ensures columns.enum-told5.given.1
-    c.check-values.ensures)))
+    (accepted-then _ _ _ _ c.check_shape-shape.ensures c.in-Accepted.is
+    (accepted-then _ _ _ _ c.check_entry_count-count.ensures c.in-Accepted-count.is
+    (accepted-then _ _ _ _ c.check_columns-columns.ensures c.in-Accepted-columns.is
+    c.check_values.ensures)))
 
-pub from-csr-parts-spec : {M : Type 1} → statement M
-from-csr-parts-spec =
+pub from_csr_parts_spec : {M : Type 1} → statement M
+from_csr_parts_spec =
     tie.close
     (tie.spec
     check-shape-requires

@@ -4,13 +4,13 @@ use Rattle.graph_counts.specs.CountChecks.{entry_count_fault}
 use Rattle.graph_counts.proofs.check_entry_count.Statement.{statement}
 use Rattle.graph_counts.proofs.check_entry_count.Tie as tie
 
-returns : tie.Need-returns
+returns : tie.Need-returns-then-count-last
 unfolding entry_count_fault
-returns c = accepts-equal _ _ _ c.if1.true
+returns c = accepts-equal _ _ _ c.if-count-last.true
 
-returns-2 : tie.Need-returns-2
+returns-2 : tie.Need-returns-else-count-last
 unfolding entry_count_fault
-returns-2 c = refuses-unequal _ _ _ c.if1.false
+returns-2 c = refuses-unequal _ _ _ c.if-count-last.false
 
-pub check-entry-count-spec : {M : Type 1} → statement M
-check-entry-count-spec = tie.close (tie.spec returns returns-2)
+pub check_entry_count_spec : {M : Type 1} → statement M
+check_entry_count_spec = tie.close (tie.spec returns returns-2)

@@ -6,21 +6,21 @@ use Rattle.graph_counts.specs.CountChecks.{size_fault}
 use Rattle.graph_counts.proofs.check_size.Statement.{statement}
 use Rattle.graph_counts.proofs.check_size.Tie as tie
 
-returns : tie.Need-returns
+returns : tie.Need-returns-then-n-gt4096
 unfolding size_fault
-returns c = refused-here _ _ _ _ (refuses _ _ (lt-ltb _ _ c.if1.true)) refl
+returns c = refused-here _ _ _ _ (refuses _ _ (lt-ltb _ _ c.if-n-gt4096.true)) refl
 
-returns-2 : tie.Need-returns-2
+returns-2 : tie.Need-returns-then-columns-gt65535
 unfolding size_fault
 returns-2 c =
-    accepted-then _ _ _ _ (accepts _ _ (le-ltb _ _ c.before.if1.false)) refl
-    (refuses _ _ (lt-ltb _ _ c.if2.true))
+    accepted-then _ _ _ _ (accepts _ _ (le-ltb _ _ c.before.if-n-gt4096.false)) refl
+    (refuses _ _ (lt-ltb _ _ c.if-columns-gt65535.true))
 
-returns-3 : tie.Need-returns-3
+returns-3 : tie.Need-returns
 unfolding size_fault
 returns-3 c =
-    accepted-then _ _ _ _ (accepts _ _ (le-ltb _ _ c.before.if1.false)) refl
-    (accepts _ _ (le-ltb _ _ c.if2.false))
+    accepted-then _ _ _ _ (accepts _ _ (le-ltb _ _ c.before.if-n-gt4096.false)) refl
+    (accepts _ _ (le-ltb _ _ c.if-columns-gt65535.false))
 
-pub check-size-spec : {M : Type 1} → statement M
-check-size-spec = tie.close (tie.spec returns returns-2 returns-3)
+pub check_size_spec : {M : Type 1} → statement M
+check_size_spec = tie.close (tie.spec returns returns-2 returns-3)

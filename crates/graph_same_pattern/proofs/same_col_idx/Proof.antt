@@ -6,45 +6,45 @@ use Rattle.graph_same_pattern.proofs.Same.{SameBefore, same_none, same_next, sam
 use Rattle.graph_same_pattern.proofs.same_col_idx.Statement.{statement}
 use Rattle.graph_same_pattern.proofs.same_col_idx.Tie as tie
 
-abbrev invariant-loop : tie.invariant-loop
-invariant-loop col-idx1 col-idx2 same₀ k₀ k-end same k = SameBefore col-idx1 col-idx2 k same
+abbrev invariant-loop-k : tie.invariant-loop-k
+invariant-loop-k col-idx1 col-idx2 same₀ k₀ k-end same k = SameBefore col-idx1 col-idx2 k same
 
-abbrev decreases-loop : tie.decreases-loop
-decreases-loop col-idx1 col-idx2 same₀ k₀ k-end same k = length col-idx1 - k
+abbrev decreases-loop-k : tie.decreases-loop-k
+decreases-loop-k col-idx1 col-idx2 same₀ k₀ k-end same k = length col-idx1 - k
 
-loop-holds : tie.Need-loop-init invariant-loop decreases-loop
+loop-holds : tie.Need-loop-k-init invariant-loop-k decreases-loop-k
 loop-holds c = same_none _ _
 
-mul-same : tie.Need-overflow-mul-same invariant-loop decreases-loop
+mul-same : tie.Need-offset_bounds-col_idx1-k invariant-loop-k decreases-loop-k
 mul-same c = omega arith
 
-shared-slice-read-same : tie.Need-shared-slice-read-same invariant-loop decreases-loop
+shared-slice-read-same : tie.Need-bounds-col_idx1-k invariant-loop-k decreases-loop-k
 shared-slice-read-same c = omega arith
 
-mul-same-2 : tie.Need-overflow-mul-same-2 invariant-loop decreases-loop
+mul-same-2 : tie.Need-offset_bounds-col_idx2-k invariant-loop-k decreases-loop-k
 mul-same-2 c = omega arith
 
-shared-slice-read-same-2 : tie.Need-shared-slice-read-same-2 invariant-loop decreases-loop
+shared-slice-read-same-2 : tie.Need-bounds-col_idx2-k invariant-loop-k decreases-loop-k
 shared-slice-read-same-2 c = omega arith
 
-add-k : tie.Need-overflow-add-k invariant-loop decreases-loop
+add-k : tie.Need-overflow_step-k invariant-loop-k decreases-loop-k
 add-k c = omega arith
 
-loop-less : tie.Need-loop-smaller invariant-loop decreases-loop
+loop-less : tie.Need-loop-k-smaller invariant-loop-k decreases-loop-k
 loop-less c = omega arith
 
-loop-again : tie.Need-loop-preserved invariant-loop decreases-loop
-loop-again c = same_next _ _ c.before.before.before.loop.invariant c.before.before.loop-test.true
+loop-again : tie.Need-loop-k-preserved invariant-loop-k decreases-loop-k
+loop-again c = same_next _ _ c.before.before.before.loop-k.invariant c.before.before.loop-k-test.true
 
-returns : tie.Need-returns invariant-loop decreases-loop
-returns c = same-all _ _ c.before.before.requires c.loop-test.false c.before.loop.invariant
+returns : tie.Need-returns invariant-loop-k decreases-loop-k
+returns c = same-all _ _ c.before.before.requires c.loop-k-test.false c.before.loop-k.invariant
 
-pub same-col-idx-spec : {M : Type 1} → statement M
-same-col-idx-spec =
+pub same_col_idx_spec : {M : Type 1} → statement M
+same_col_idx_spec =
     tie.close
     (tie.spec
-    invariant-loop
-    decreases-loop
+    invariant-loop-k
+    decreases-loop-k
     loop-holds
     mul-same
     shared-slice-read-same

@@ -6,71 +6,71 @@ use Rattle.graph_shape.proofs.First.{Passed, passed_none, passed-more, passed-fo
 use Rattle.graph_shape.proofs.check_row_starts.Statement.{statement}
 use Rattle.graph_shape.proofs.check_row_starts.Tie as tie
 
-abbrev invariant-loop : tie.invariant-loop
-invariant-loop n row-ptr i₀ i = Passed (falls_at row-ptr) n i
+abbrev invariant-loop-i : tie.invariant-loop-i
+invariant-loop-i n row-ptr i₀ i = Passed (falls_at row-ptr) n i
 
-abbrev decreases-loop : tie.decreases-loop
-decreases-loop n row-ptr i₀ i = n - i
+abbrev decreases-loop-i : tie.decreases-loop-i
+decreases-loop-i n row-ptr i₀ i = n - i
 
-row-starts-rise-requires : tie.Need-row-starts-rise-requires invariant-loop decreases-loop
-row-starts-rise-requires c κs = c.before.requires
+row-starts-rise-requires : tie.Need-row_starts_rise-requires invariant-loop-i decreases-loop-i
+row-starts-rise-requires c κs = c.requires
 
-returns : tie.Need-returns invariant-loop decreases-loop
+returns : tie.Need-returns-then-row_starts_rise invariant-loop-i decreases-loop-i
 unfolding row_starts_fault
-returns c = accepts-none _ _ _ (c.before.row-starts-rise.ensures c.if1.true)
+returns c = accepts-none _ _ _ (c.row_starts_rise.ensures c.if-row_starts_rise.true)
 
-loop-holds : tie.Need-loop-init invariant-loop decreases-loop
+loop-holds : tie.Need-loop-i-init invariant-loop-i decreases-loop-i
 loop-holds c = passed_none
 
-mul-if2 : tie.Need-overflow-mul-if2 invariant-loop decreases-loop
+mul-if2 : tie.Need-offset_bounds-row_ptr-i invariant-loop-i decreases-loop-i
 mul-if2 c =
-    let h : c.before.loop.i < length c.before.before.before.before.before.args.row-ptr.now = omega arith in
+    let h : c.loop-i.i < length c.args.row_ptr.now = omega arith in
     search rules
 
-shared-slice-read-if2 : tie.Need-shared-slice-read-if2 invariant-loop decreases-loop
+shared-slice-read-if2 : tie.Need-bounds-row_ptr-i invariant-loop-i decreases-loop-i
 shared-slice-read-if2 c = omega arith
 
-add-if2 : tie.Need-overflow-add-if2 invariant-loop decreases-loop
+add-if2 : tie.Need-overflow_add-i invariant-loop-i decreases-loop-i
 add-if2 c = omega arith
 
-mul-if2-2 : tie.Need-overflow-mul-if2-2 invariant-loop decreases-loop
+mul-if2-2 : tie.Need-offset_bounds-row_ptr-i-in-loop-i invariant-loop-i decreases-loop-i
 mul-if2-2 c =
-    let h : c.before.before.loop.i + 1 < length c.before.before.before.before.before.before.args.row-ptr.now = omega arith in
+    let h : c.loop-i.i + 1 < length c.args.row_ptr.now = omega arith in
     search rules
 
-shared-slice-read-if2-2 : tie.Need-shared-slice-read-if2-2 invariant-loop decreases-loop
+shared-slice-read-if2-2 : tie.Need-bounds-row_ptr-i-in-loop-i invariant-loop-i decreases-loop-i
 shared-slice-read-if2-2 c = omega arith
 
-returns-2 : tie.Need-returns-2 invariant-loop decreases-loop
+returns-2 : tie.Need-returns-then-row_ptr-i invariant-loop-i decreases-loop-i
 unfolding row_starts_fault
 returns-2 c =
-    let l = c.before.before.before.before.loop in
-    refuses-first _ _ _ _ c.before.before.before.loop-test.true
-    (passed-found l.invariant (lt-ltb _ _ c.if2.true))
+    let l = c.loop-i in
+    refuses-first _ _ _ _ c.loop-i-test.true
+    (passed-found l.invariant (lt-ltb _ _ c.if-row_ptr-i.true))
 
-add-i : tie.Need-overflow-add-i invariant-loop decreases-loop
+add-i : tie.Need-overflow_step-i invariant-loop-i decreases-loop-i
 add-i c = omega arith
 
-loop-less : tie.Need-loop-smaller invariant-loop decreases-loop
+loop-less : tie.Need-loop-i-smaller invariant-loop-i decreases-loop-i
 loop-less c = omega arith
 
-loop-again : tie.Need-loop-preserved invariant-loop decreases-loop
+loop-again : tie.Need-loop-i-preserved invariant-loop-i decreases-loop-i
 loop-again c =
-    let l = c.before.before.before.before.loop in
-    passed-more l.invariant c.before.before.before.loop-test.true (le-ltb _ _ c.if2.false)
+    let l = c.loop-i in
+    passed-more l.invariant c.loop-i-test.true (le-ltb _ _ c.if-row_ptr-i.false)
 
-returns-3 : tie.Need-returns-3 invariant-loop decreases-loop
+returns-3 : tie.Need-returns invariant-loop-i decreases-loop-i
 unfolding row_starts_fault
 returns-3 c =
-    let l = c.before.loop in
+    let l = c.loop-i in
     accepts-none _ _ _ (λ j m. l.invariant.none j (omega arith))
 
-pub check-row-starts-spec : {M : Type 1} → statement M
-check-row-starts-spec =
+pub check_row_starts_spec : {M : Type 1} → statement M
+check_row_starts_spec =
     tie.close
     (tie.spec
-    invariant-loop
-    decreases-loop
+    invariant-loop-i
+    decreases-loop-i
     row-starts-rise-requires
     returns
     loop-holds

@@ -7,65 +7,65 @@ use Rattle.graph_shape.proofs.RowStarts.{joined-before, joined-rises}
 use Rattle.graph_shape.proofs.row_starts_rise.Statement.{statement}
 use Rattle.graph_shape.proofs.row_starts_rise.Tie as tie
 
-abbrev invariant-loop : tie.invariant-loop
-invariant-loop n row-ptr joined₀ i₀ joined i = (i ≤ n) × (joined < 2 ^ 63 → Passed (falls_at row-ptr) n i)
+abbrev invariant-loop-i : tie.invariant-loop-i
+invariant-loop-i n row-ptr joined₀ i₀ joined i = (i ≤ n) × (joined < 2 ^ 63 → Passed (falls_at row-ptr) n i)
 
-abbrev decreases-loop : tie.decreases-loop
-decreases-loop n row-ptr joined₀ i₀ joined i = n - i
+abbrev decreases-loop-i : tie.decreases-loop-i
+decreases-loop-i n row-ptr joined₀ i₀ joined i = n - i
 
-loop-holds : tie.Need-loop-init invariant-loop decreases-loop
+loop-holds : tie.Need-loop-i-init invariant-loop-i decreases-loop-i
 loop-holds c = (omega arith, λ h. passed_none)
 
-mul-start : tie.Need-overflow-mul-start invariant-loop decreases-loop
+mul-start : tie.Need-offset_bounds-row_ptr-i invariant-loop-i decreases-loop-i
 mul-start c =
-    let h : c.before.loop.i < length c.before.before.before.args.row-ptr.now = omega arith in
+    let h : c.loop-i.i < length c.args.row_ptr.now = omega arith in
     search rules
 
-shared-slice-read-start : tie.Need-shared-slice-read-start invariant-loop decreases-loop
+shared-slice-read-start : tie.Need-bounds-row_ptr-i invariant-loop-i decreases-loop-i
 shared-slice-read-start c = omega arith
 
-add-wrapping-sub-usize : tie.Need-overflow-add-wrapping-sub-usize invariant-loop decreases-loop
+add-wrapping-sub-usize : tie.Need-overflow_add-i invariant-loop-i decreases-loop-i
 add-wrapping-sub-usize c = omega arith
 
-mul-wrapping-sub-usize : tie.Need-overflow-mul-wrapping-sub-usize invariant-loop decreases-loop
+mul-wrapping-sub-usize : tie.Need-offset_bounds-row_ptr-i-in-loop-i invariant-loop-i decreases-loop-i
 mul-wrapping-sub-usize c =
-    let h : c.before.before.loop.i + 1 < length c.before.before.before.before.args.row-ptr.now = omega arith in
+    let h : c.loop-i.i + 1 < length c.args.row_ptr.now = omega arith in
     search rules
 
-shared-slice-read-wrapping-sub-usize : tie.Need-shared-slice-read-wrapping-sub-usize invariant-loop decreases-loop
+shared-slice-read-wrapping-sub-usize : tie.Need-bounds-row_ptr-i-in-loop-i invariant-loop-i decreases-loop-i
 shared-slice-read-wrapping-sub-usize c = omega arith
 
-wrapping-sub-usize-requires : tie.Need-wrapping-sub-usize-requires invariant-loop decreases-loop
+wrapping-sub-usize-requires : tie.Need-wrapping_sub_usize-distance-requires invariant-loop-i decreases-loop-i
 wrapping-sub-usize-requires c κs = search rules
 
-add-i : tie.Need-overflow-add-i invariant-loop decreases-loop
+add-i : tie.Need-overflow_step-i invariant-loop-i decreases-loop-i
 add-i c = omega arith
 
-loop-less : tie.Need-loop-smaller invariant-loop decreases-loop
+loop-less : tie.Need-loop-i-smaller invariant-loop-i decreases-loop-i
 loop-less c = omega arith
 
-loop-again : tie.Need-loop-preserved invariant-loop decreases-loop
+loop-again : tie.Need-loop-i-preserved invariant-loop-i decreases-loop-i
 loop-again c =
-    let l = c.before.before.before.before.loop in
-    let more = c.before.before.before.loop-test.true in
-    let start = get_or c.before.before.before.before.before.before.args.row-ptr.now l.i 0 in
-    let distance = c.wrapping-sub-usize.result in (
+    let l = c.loop-i in
+    let more = c.loop-i-test.true in
+    let start = get_or c.args.row_ptr.now l.i 0 in
+    let distance = c.wrapping_sub_usize-distance.result in (
       omega (arith, more),
       λ h. passed-more (l.invariant.1 (joined-before l.joined start distance h)) more
-          (joined-rises l.joined start distance _ c.wrapping-sub-usize.ensures h),
+          (joined-rises l.joined start distance _ c.wrapping_sub_usize-distance.ensures h),
     )
 
-returns : tie.Need-returns invariant-loop decreases-loop
+returns : tie.Need-returns invariant-loop-i decreases-loop-i
 returns c =
-    let l = c.before.loop in
-    λ told i m. (l.invariant.1 (ltb-true _ _ told)).none i (omega (arith, c.loop-test.false))
+    let l = c.loop-i in
+    λ told i m. (l.invariant.1 (ltb-true _ _ told)).none i (omega (arith, c.loop-i-test.false))
 
-pub row-starts-rise-spec : {M : Type 1} → statement M
-row-starts-rise-spec =
+pub row_starts_rise_spec : {M : Type 1} → statement M
+row_starts_rise_spec =
     tie.close
     (tie.spec
-    invariant-loop
-    decreases-loop
+    invariant-loop-i
+    decreases-loop-i
     loop-holds
     mul-start
     shared-slice-read-start

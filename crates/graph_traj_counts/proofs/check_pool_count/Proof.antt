@@ -4,13 +4,13 @@ use Rattle.graph_traj_counts.specs.CountChecks.{pool_count_fault}
 use Rattle.graph_traj_counts.proofs.check_pool_count.Statement.{statement}
 use Rattle.graph_traj_counts.proofs.check_pool_count.Tie as tie
 
-returns : tie.Need-returns
+returns : tie.Need-returns-then-count-wanted
 unfolding pool_count_fault
-returns c = accepts-equal _ _ _ c.if1.true
+returns c = accepts-equal _ _ _ c.if-count-wanted.true
 
-returns-2 : tie.Need-returns-2
+returns-2 : tie.Need-returns-else-count-wanted
 unfolding pool_count_fault
-returns-2 c = refuses-unequal _ _ _ c.if1.false
+returns-2 c = refuses-unequal _ _ _ c.if-count-wanted.false
 
-pub check-pool-count-spec : {M : Type 1} → statement M
-check-pool-count-spec = tie.close (tie.spec returns returns-2)
+pub check_pool_count_spec : {M : Type 1} → statement M
+check_pool_count_spec = tie.close (tie.spec returns returns-2)

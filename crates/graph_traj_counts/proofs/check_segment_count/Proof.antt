@@ -4,13 +4,13 @@ use Rattle.graph_traj_counts.specs.CountChecks.{segment_count_fault}
 use Rattle.graph_traj_counts.proofs.check_segment_count.Statement.{statement}
 use Rattle.graph_traj_counts.proofs.check_segment_count.Tie as tie
 
-returns : tie.Need-returns
+returns : tie.Need-returns-then-segments
 unfolding segment_count_fault
-returns c = refuses _ _ c.if1.true
+returns c = refuses _ _ c.if-segments.true
 
-returns-2 : tie.Need-returns-2
+returns-2 : tie.Need-returns-else-segments
 unfolding segment_count_fault
-returns-2 c = accepts _ _ c.if1.false
+returns-2 c = accepts _ _ c.if-segments.false
 
-pub check-segment-count-spec : {M : Type 1} → statement M
-check-segment-count-spec = tie.close (tie.spec returns returns-2)
+pub check_segment_count_spec : {M : Type 1} → statement M
+check_segment_count_spec = tie.close (tie.spec returns returns-2)

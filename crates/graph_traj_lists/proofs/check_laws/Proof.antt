@@ -8,50 +8,48 @@ use Rattle.graph_traj_lists.specs.ListChecks.{unknown_law_at, laws_fault}
 use Rattle.graph_traj_lists.proofs.check_laws.Statement.{statement}
 use Rattle.graph_traj_lists.proofs.check_laws.Tie as tie
 
-abbrev invariant-loop : tie.invariant-loop
-invariant-loop laws k₀ k-end k = Passed (unknown_law_at laws) (length laws) k
+abbrev invariant-loop-k : tie.invariant-loop-k
+invariant-loop-k laws k₀ k-end k = Passed (unknown_law_at laws) (length laws) k
 
-abbrev decreases-loop : tie.decreases-loop
-decreases-loop laws k₀ k-end k = length laws - k
+abbrev decreases-loop-k : tie.decreases-loop-k
+decreases-loop-k laws k₀ k-end k = length laws - k
 
-loop-holds : tie.Need-loop-init invariant-loop decreases-loop
+loop-holds : tie.Need-loop-k-init invariant-loop-k decreases-loop-k
 loop-holds c = passed_none
 
-shared-slice-read-law : tie.Need-shared-slice-read-law invariant-loop decreases-loop
+shared-slice-read-law : tie.Need-bounds-laws-k invariant-loop-k decreases-loop-k
 shared-slice-read-law c = omega arith
 
-cast-law : tie.Need-overflow-cast-law invariant-loop decreases-loop
-cast-law c = omega (arith, c.shared-slice-known.given c.before.before.loop.k)
+cast-law : tie.Need-overflow_cast-law invariant-loop-k decreases-loop-k
+cast-law c = omega (arith, c.shared_slice_known-1.given c.loop-k.k)
 
-returns : tie.Need-returns invariant-loop decreases-loop
+returns : tie.Need-returns-then-law-gt2 invariant-loop-k decreases-loop-k
 unfolding laws_fault
 returns c =
-    let test = c.before.before in
-    refuses-first _ _ _ _ test.loop-test.true (passed-found test.before.loop.invariant (lt-ltb _ _ c.if1.true))
+    refuses-first _ _ _ _ c.loop-k-test.true (passed-found c.loop-k.invariant (lt-ltb _ _ c.if-law-gt2.true))
 
-add-k : tie.Need-overflow-add-k invariant-loop decreases-loop
+add-k : tie.Need-overflow_step-k invariant-loop-k decreases-loop-k
 add-k c = omega arith
 
-loop-less : tie.Need-loop-smaller invariant-loop decreases-loop
+loop-less : tie.Need-loop-k-smaller invariant-loop-k decreases-loop-k
 loop-less c = omega arith
 
-loop-again : tie.Need-loop-preserved invariant-loop decreases-loop
+loop-again : tie.Need-loop-k-preserved invariant-loop-k decreases-loop-k
 loop-again c =
-    let test = c.before.before in
-    passed-more test.before.loop.invariant test.loop-test.true (le-ltb _ _ c.if1.false)
+    passed-more c.loop-k.invariant c.loop-k-test.true (le-ltb _ _ c.if-law-gt2.false)
 
-returns-2 : tie.Need-returns-2 invariant-loop decreases-loop
+returns-2 : tie.Need-returns invariant-loop-k decreases-loop-k
 unfolding laws_fault
 returns-2 c =
-    let l = c.before.loop in
+    let l = c.loop-k in
     accepts-none _ _ _ (λ j m. l.invariant.none j (omega arith))
 
-pub check-laws-spec : {M : Type 1} → statement M
-check-laws-spec =
+pub check_laws_spec : {M : Type 1} → statement M
+check_laws_spec =
     tie.close
     (tie.spec
-    invariant-loop
-    decreases-loop
+    invariant-loop-k
+    decreases-loop-k
     loop-holds
     shared-slice-read-law
     cast-law

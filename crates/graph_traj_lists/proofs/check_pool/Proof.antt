@@ -22,34 +22,34 @@ module _ (values : List Float) (b : Bool) (quick : b ≡ all finite values) wher
   found : b ≡ false → (k : ℕ) → k ≡ first (not_finite_at values) (length values) → k < length values
   found = some-fails finite values nan (not_finite_at values) (λ k. refl) b quick
 
-all-finite-requires : tie.Need-all-finite-requires
+all-finite-requires : tie.Need-all_finite-requires
 all-finite-requires c κs = search rules
 
-returns : tie.Need-returns
+returns : tie.Need-returns-then-all_finite
 unfolding value_fault
-returns c = accepts-none _ _ _ (none_found _ _ c.before.all-finite.ensures c.if1.true)
+returns c = accepts-none _ _ _ (none_found _ _ c.all_finite.ensures c.if-all_finite.true)
 
-first-not-finite-requires : tie.Need-first-not-finite-requires
+first-not-finite-requires : tie.Need-first_not_finite-k-requires
 first-not-finite-requires c κs = search rules
 
 -- the walk's answer is an entry
-within : (c : tie.After-first-not-finite)
-    → c.first-not-finite.result < length c.before.before.before.before.args.values.now
+within : (c : tie.After-first_not_finite-k)
+    → c.first_not_finite-k.result < length c.args.values.now
 within c =
-    found _ _ c.before.before.all-finite.ensures c.before.if1.false _ c.first-not-finite.ensures
+    found _ _ c.all_finite.ensures c.if-all_finite.false _ c.first_not_finite-k.ensures
 
-mul-t4 : tie.Need-overflow-mul-t4
+mul-t4 : tie.Need-offset_bounds-values-k
 mul-t4 c = let h = within c in search rules
 
-shared-slice-read-t6 : tie.Need-shared-slice-read-t6
+shared-slice-read-t6 : tie.Need-bounds-values-k
 shared-slice-read-t6 c = within c.before
 
-returns-2 : tie.Need-returns-2
+returns-2 : tie.Need-returns
 unfolding value_fault
-returns-2 c = refuses-first _ _ _ _ (within c.before) c.before.first-not-finite.ensures
+returns-2 c = refuses-first _ _ _ _ (within c.before) c.first_not_finite-k.ensures
 
-pub check-pool-spec : {M : Type 1} → statement M
-check-pool-spec =
+pub check_pool_spec : {M : Type 1} → statement M
+check_pool_spec =
     tie.close
     (tie.spec
     all-finite-requires

@@ -11,51 +11,51 @@ use Rattle.graph_checks.specs.PatternChecks.{not_finite_at}
 use Rattle.graph_traj_lists.proofs.first_not_finite.Statement.{statement}
 use Rattle.graph_traj_lists.proofs.first_not_finite.Tie as tie
 
-abbrev invariant-loop : tie.invariant-loop
-invariant-loop values k₀ k = Passed (not_finite_at values) (length values) k
+abbrev invariant-loop-k : tie.invariant-loop-k
+invariant-loop-k values k₀ k = Passed (not_finite_at values) (length values) k
 
-abbrev decreases-loop : tie.decreases-loop
-decreases-loop values k₀ k = length values - k
+abbrev decreases-loop-k : tie.decreases-loop-k
+decreases-loop-k values k₀ k = length values - k
 
-loop-holds : tie.Need-loop-init invariant-loop decreases-loop
+loop-holds : tie.Need-loop-k-init invariant-loop-k decreases-loop-k
 loop-holds c = passed_none
 
-mul-is-finite : tie.Need-overflow-mul-is-finite invariant-loop decreases-loop
+mul-is-finite : tie.Need-offset_bounds-values-k invariant-loop-k decreases-loop-k
 mul-is-finite c =
-    let h : c.before.loop.k < length c.before.before.before.args.values.now = c.loop-test.true in
+    let h : c.loop-k.k < length c.args.values.now = c.loop-k-test.true in
     search rules
 
-shared-slice-read-is-finite : tie.Need-shared-slice-read-is-finite invariant-loop decreases-loop
+shared-slice-read-is-finite : tie.Need-bounds-values-k invariant-loop-k decreases-loop-k
 shared-slice-read-is-finite c = omega arith
 
-is-finite-requires : tie.Need-is-finite-requires invariant-loop decreases-loop
+is-finite-requires : tie.Need-is_finite-requires invariant-loop-k decreases-loop-k
 is-finite-requires c κs = search rules
 
-returns : tie.Need-returns invariant-loop decreases-loop
+returns : tie.Need-returns-then-not-is_finite invariant-loop-k decreases-loop-k
 returns c =
-    passed-found c.before.before.before.before.loop.invariant
-    (ap not (sym c.before.is_finite.ensures) ∙ c.if1.true)
+    passed-found c.loop-k.invariant
+    (ap not (sym c.is_finite.ensures) ∙ c.if-not-is_finite.true)
 
-add-k : tie.Need-overflow-add-k invariant-loop decreases-loop
+add-k : tie.Need-overflow_add-k invariant-loop-k decreases-loop-k
 add-k c = omega arith
 
-loop-less : tie.Need-loop-smaller invariant-loop decreases-loop
+loop-less : tie.Need-loop-k-smaller invariant-loop-k decreases-loop-k
 loop-less c = omega arith
 
-loop-again : tie.Need-loop-preserved invariant-loop decreases-loop
+loop-again : tie.Need-loop-k-preserved invariant-loop-k decreases-loop-k
 loop-again c =
-    passed-more c.before.before.before.before.loop.invariant c.before.before.before.loop-test.true
-    (ap not (sym c.before.is_finite.ensures) ∙ c.if1.false)
+    passed-more c.loop-k.invariant c.loop-k-test.true
+    (ap not (sym c.is_finite.ensures) ∙ c.if-not-is_finite.false)
 
-returns-2 : tie.Need-returns-2 invariant-loop decreases-loop
-returns-2 c = passed-all c.before.loop.invariant c.loop-test.false
+returns-2 : tie.Need-returns invariant-loop-k decreases-loop-k
+returns-2 c = passed-all c.loop-k.invariant c.loop-k-test.false
 
-pub first-not-finite-spec : {M : Type 1} → statement M
-first-not-finite-spec =
+pub first_not_finite_spec : {M : Type 1} → statement M
+first_not_finite_spec =
     tie.close
     (tie.spec
-    invariant-loop
-    decreases-loop
+    invariant-loop-k
+    decreases-loop-k
     loop-holds
     mul-is-finite
     shared-slice-read-is-finite

@@ -11,134 +11,134 @@ use Rattle.refusal_rows.proofs.row_of.Tie as tie
 row : {came named : Refusal} → came ≡ named → (number_of named ≡ number_of came) × (values_of named ≡ values_of came)
 row e = (ap number_of (sym e), ap values_of (sym e))
 
-enum-known-refusal : tie.Need-enum-known-refusal
+enum-known-refusal : tie.Need-enum_known-refusal
 enum-known-refusal c = search rules
 
-enum-known-refusal-2 : tie.Need-enum-known-refusal-2
+enum-known-refusal-2 : tie.Need-enum_known-refusal-in-RowStartFalls-1
 enum-known-refusal-2 c = search rules
 
-enum-known-refusal-3 : tie.Need-enum-known-refusal-3
+enum-known-refusal-3 : tie.Need-enum_known-refusal-in-EntryCount-1
 enum-known-refusal-3 c = search rules
 
-enum-known-refusal-4 : tie.Need-enum-known-refusal-4
+enum-known-refusal-4 : tie.Need-enum_known-refusal-in-Column-1
 enum-known-refusal-4 c = search rules
 
-enum-known-refusal-5 : tie.Need-enum-known-refusal-5
+enum-known-refusal-5 : tie.Need-enum_known-refusal-in-Value-1
 enum-known-refusal-5 c = search rules
 
-enum-known-refusal-6 : tie.Need-enum-known-refusal-6
+enum-known-refusal-6 : tie.Need-enum_known-refusal-in-Size-1
 enum-known-refusal-6 c = search rules
 
-enum-known-refusal-7 : tie.Need-enum-known-refusal-7
+enum-known-refusal-7 : tie.Need-enum_known-refusal-in-Tau-1
 enum-known-refusal-7 c = search rules
 
-enum-known-refusal-8 : tie.Need-enum-known-refusal-8
+enum-known-refusal-8 : tie.Need-enum_known-refusal-in-Radius-1
 enum-known-refusal-8 c = search rules
 
-enum-known-refusal-9 : tie.Need-enum-known-refusal-9
+enum-known-refusal-9 : tie.Need-enum_known-refusal-in-Bound-1
 enum-known-refusal-9 c = search rules
 
-enum-known-refusal-10 : tie.Need-enum-known-refusal-10
+enum-known-refusal-10 : tie.Need-enum_known-refusal-in-Length-1
 enum-known-refusal-10 c = search rules
 
-enum-known-refusal-11 : tie.Need-enum-known-refusal-11
+enum-known-refusal-11 : tie.Need-enum_known-refusal-in-Weight-1
 enum-known-refusal-11 c = search rules
 
-enum-known-refusal-12 : tie.Need-enum-known-refusal-12
+enum-known-refusal-12 : tie.Need-enum_known-refusal-in-NoNodes-1
 enum-known-refusal-12 c = search rules
 
-enum-known-refusal-13 : tie.Need-enum-known-refusal-13
+enum-known-refusal-13 : tie.Need-enum_known-refusal-in-SegmentCount-1
 enum-known-refusal-13 c = search rules
 
-enum-known-refusal-14 : tie.Need-enum-known-refusal-14
+enum-known-refusal-14 : tie.Need-enum_known-refusal-in-PoolCount-1
 enum-known-refusal-14 c = search rules
 
-enum-known-refusal-15 : tie.Need-enum-known-refusal-15
+enum-known-refusal-15 : tie.Need-enum_known-refusal-in-Breakpoint-1
 enum-known-refusal-15 c = search rules
 
-enum-known-refusal-16 : tie.Need-enum-known-refusal-16
+enum-known-refusal-16 : tie.Need-enum_known-refusal-in-StepCount-1
 enum-known-refusal-16 c = search rules
 
-enum-known-refusal-17 : tie.Need-enum-known-refusal-17
+enum-known-refusal-17 : tie.Need-enum_known-refusal-in-FirstBreakpoint-1
 enum-known-refusal-17 c = search rules
 
-enum-known-refusal-18 : tie.Need-enum-known-refusal-18
+enum-known-refusal-18 : tie.Need-enum_known-refusal-in-LookupTime-1
 enum-known-refusal-18 c = search rules
 
-enum-known-refusal-19 : tie.Need-enum-known-refusal-19
+enum-known-refusal-19 : tie.Need-enum_known-refusal-in-Law-1
 enum-known-refusal-19 c = search rules
 
-enum-known-refusal-20 : tie.Need-enum-known-refusal-20
+enum-known-refusal-20 : tie.Need-enum_known-refusal-in-SampledValue-1
 enum-known-refusal-20 c = search rules
 
-enum-known-refusal-21 : tie.Need-enum-known-refusal-21
+enum-known-refusal-21 : tie.Need-enum_known-refusal-in-Malformed-1
 enum-known-refusal-21 c = search rules
 
-returns : tie.Need-returns
-returns c = row c.before.refusal.given.1
+returns : tie.Need-returns-in-RowStartCount
+returns c = row c.in-RowStartCount.is
 
-returns-2 : tie.Need-returns-2
-returns-2 c = row c.before.refusal2.given.1
+returns-2 : tie.Need-returns-in-RowStartFalls
+returns-2 c = row c.in-RowStartFalls.is
 
-returns-3 : tie.Need-returns-3
-returns-3 c = row c.before.refusal3.given.1
+returns-3 : tie.Need-returns-in-EntryCount
+returns-3 c = row c.in-EntryCount.is
 
-returns-4 : tie.Need-returns-4
-returns-4 c = row c.before.refusal4.given.1
+returns-4 : tie.Need-returns-in-Column
+returns-4 c = row c.in-Column.is
 
-returns-5 : tie.Need-returns-5
-returns-5 c = row c.before.refusal5.given.1
+returns-5 : tie.Need-returns-in-Value
+returns-5 c = row c.in-Value.is
 
-returns-6 : tie.Need-returns-6
-returns-6 c = row c.before.refusal6.given.1
+returns-6 : tie.Need-returns-in-Size
+returns-6 c = row c.in-Size.is
 
-returns-7 : tie.Need-returns-7
-returns-7 c = row c.before.refusal7.given.1
+returns-7 : tie.Need-returns-in-Tau
+returns-7 c = row c.in-Tau.is
 
-returns-8 : tie.Need-returns-8
-returns-8 c = row c.before.refusal8.given.1
+returns-8 : tie.Need-returns-in-Radius
+returns-8 c = row c.in-Radius.is
 
-returns-9 : tie.Need-returns-9
-returns-9 c = row c.before.refusal9.given.1
+returns-9 : tie.Need-returns-in-Bound
+returns-9 c = row c.in-Bound.is
 
-returns-10 : tie.Need-returns-10
-returns-10 c = row c.before.refusal10.given.1
+returns-10 : tie.Need-returns-in-Length
+returns-10 c = row c.in-Length.is
 
-returns-11 : tie.Need-returns-11
-returns-11 c = row c.before.refusal11.given.1
+returns-11 : tie.Need-returns-in-Weight
+returns-11 c = row c.in-Weight.is
 
-returns-12 : tie.Need-returns-12
-returns-12 c = row c.before.refusal12.given.1
+returns-12 : tie.Need-returns-in-NoNodes
+returns-12 c = row c.in-NoNodes.is
 
-returns-13 : tie.Need-returns-13
-returns-13 c = row c.before.refusal13.given.1
+returns-13 : tie.Need-returns-in-SegmentCount
+returns-13 c = row c.in-SegmentCount.is
 
-returns-14 : tie.Need-returns-14
-returns-14 c = row c.before.refusal14.given.1
+returns-14 : tie.Need-returns-in-PoolCount
+returns-14 c = row c.in-PoolCount.is
 
-returns-15 : tie.Need-returns-15
-returns-15 c = row c.before.refusal15.given.1
+returns-15 : tie.Need-returns-in-Breakpoint
+returns-15 c = row c.in-Breakpoint.is
 
-returns-16 : tie.Need-returns-16
-returns-16 c = row c.before.refusal16.given.1
+returns-16 : tie.Need-returns-in-StepCount
+returns-16 c = row c.in-StepCount.is
 
-returns-17 : tie.Need-returns-17
-returns-17 c = row c.before.refusal17.given.1
+returns-17 : tie.Need-returns-in-FirstBreakpoint
+returns-17 c = row c.in-FirstBreakpoint.is
 
-returns-18 : tie.Need-returns-18
-returns-18 c = row c.before.refusal18.given.1
+returns-18 : tie.Need-returns-in-LookupTime
+returns-18 c = row c.in-LookupTime.is
 
-returns-19 : tie.Need-returns-19
-returns-19 c = row c.before.refusal19.given.1
+returns-19 : tie.Need-returns-in-Law
+returns-19 c = row c.in-Law.is
 
-returns-20 : tie.Need-returns-20
-returns-20 c = row c.before.refusal20.given.1
+returns-20 : tie.Need-returns-in-SampledValue
+returns-20 c = row c.in-SampledValue.is
 
-returns-21 : tie.Need-returns-21
-returns-21 c = row c.before.refusal21.given.1
+returns-21 : tie.Need-returns-in-Malformed
+returns-21 c = row c.in-Malformed.is
 
-pub row-of-spec : {M : Type 1} → statement M
-row-of-spec =
+pub row_of_spec : {M : Type 1} → statement M
+row_of_spec =
     tie.close
     (tie.spec
     enum-known-refusal

@@ -7,54 +7,54 @@ use borrow.Author.Rules.{rules}
 use Rattle.replay_fields.proofs.read_reals.Statement.{statement}
 use Rattle.replay_fields.proofs.read_reals.Tie as tie
 
-abbrev invariant-loop : tie.invariant-loop
-invariant-loop fields at target₀ count next₀ i₀ target next i = length target ≡ length target₀
+abbrev invariant-loop-i : tie.invariant-loop-i
+invariant-loop-i fields at target₀ count next₀ i₀ target next i = length target ≡ length target₀
 
-abbrev decreases-loop : tie.decreases-loop
-decreases-loop fields at target₀ count next₀ i₀ target next i = count - i
+abbrev decreases-loop-i : tie.decreases-loop-i
+decreases-loop-i fields at target₀ count next₀ i₀ target next i = count - i
 
-slice-at-requires : tie.Need-slice-at-requires invariant-loop decreases-loop
+slice-at-requires : tie.Need-slice_at-slice-requires invariant-loop-i decreases-loop-i
 slice-at-requires c κs = search rules
 
-loop-holds : tie.Need-loop-init invariant-loop decreases-loop
+loop-holds : tie.Need-loop-i-init invariant-loop-i decreases-loop-i
 loop-holds c = search rules
 
-number64-requires : tie.Need-number64-requires invariant-loop decreases-loop
+number64-requires : tie.Need-number64-requires invariant-loop-i decreases-loop-i
 number64-requires c κs = search rules
 
-from-bits-requires : tie.Need-from-bits-requires invariant-loop decreases-loop
+from-bits-requires : tie.Need-from_bits-requires invariant-loop-i decreases-loop-i
 from-bits-requires c κs = search rules
 
-mul-target : tie.Need-overflow-mul-target invariant-loop decreases-loop
+mul-target : tie.Need-offset_bounds-target-i invariant-loop-i decreases-loop-i
 mul-target c = search rules
 
-slice-write-target : tie.Need-slice-write-target invariant-loop decreases-loop
+slice-write-target : tie.Need-bounds-target-i invariant-loop-i decreases-loop-i
 slice-write-target c = search rules
 
-further-requires : tie.Need-further-requires invariant-loop decreases-loop
+further-requires : tie.Need-further-next-requires invariant-loop-i decreases-loop-i
 further-requires c κs = search rules
 
-add-i : tie.Need-overflow-add-i invariant-loop decreases-loop
+add-i : tie.Need-overflow_step-i invariant-loop-i decreases-loop-i
 add-i c = search rules
 
-loop-less : tie.Need-loop-smaller invariant-loop decreases-loop
+loop-less : tie.Need-loop-i-smaller invariant-loop-i decreases-loop-i
 loop-less c = search rules
 
-loop-again : tie.Need-loop-preserved invariant-loop decreases-loop
+loop-again : tie.Need-loop-i-preserved invariant-loop-i decreases-loop-i
 loop-again c = search rules
 
-same_length : tie.Need-same-length invariant-loop decreases-loop
+same_length : tie.Need-shape_of-target invariant-loop-i decreases-loop-i
 same_length c = search rules
 
-returns : tie.Need-returns invariant-loop decreases-loop
+returns : tie.Need-returns invariant-loop-i decreases-loop-i
 returns c = (search rules, sym (length-take-le _ _ (search rules)))
 
-pub read-reals-spec : {M : Type 1} → statement M
-read-reals-spec =
+pub read_reals_spec : {M : Type 1} → statement M
+read_reals_spec =
     tie.close
     (tie.spec
-    invariant-loop
-    decreases-loop
+    invariant-loop-i
+    decreases-loop-i
     slice-at-requires
     loop-holds
     number64-requires

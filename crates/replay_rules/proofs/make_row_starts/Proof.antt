@@ -7,54 +7,54 @@ use borrow.Author.Rules.{rules}
 use Rattle.replay_rules.proofs.make_row_starts.Statement.{statement}
 use Rattle.replay_rules.proofs.make_row_starts.Tie as tie
 
-abbrev invariant-loop : tie.invariant-loop
-invariant-loop n first width entries target₀ count start₀ i₀ target start i = (length target ≡ length target₀) × (start ≤ entries)
+abbrev invariant-loop-i : tie.invariant-loop-i
+invariant-loop-i n first width entries target₀ count start₀ i₀ target start i = (length target ≡ length target₀) × (start ≤ entries)
 
-abbrev decreases-loop : tie.decreases-loop
-decreases-loop n first width entries target₀ count start₀ i₀ target start i = count - i
+abbrev decreases-loop-i : tie.decreases-loop-i
+decreases-loop-i n first width entries target₀ count start₀ i₀ target start i = count - i
 
-returns : tie.Need-returns invariant-loop decreases-loop
+returns : tie.Need-returns-then-target-n invariant-loop-i decreases-loop-i
 returns c = search rules
 
-add-count : tie.Need-overflow-add-count invariant-loop decreases-loop
+add-count : tie.Need-overflow_add-count invariant-loop-i decreases-loop-i
 add-count c = search rules
 
-sum-up-to-requires : tie.Need-sum-up-to-requires invariant-loop decreases-loop
+sum-up-to-requires : tie.Need-sum_up_to-start-requires invariant-loop-i decreases-loop-i
 sum-up-to-requires c κs = search rules
 
-loop-holds : tie.Need-loop-init invariant-loop decreases-loop
+loop-holds : tie.Need-loop-i-init invariant-loop-i decreases-loop-i
 loop-holds c = search rules
 
-mul-target : tie.Need-overflow-mul-target invariant-loop decreases-loop
+mul-target : tie.Need-offset_bounds-target-i invariant-loop-i decreases-loop-i
 mul-target c = search rules
 
-slice-write-target : tie.Need-slice-write-target invariant-loop decreases-loop
+slice-write-target : tie.Need-bounds-target-i invariant-loop-i decreases-loop-i
 slice-write-target c = search rules
 
-sum-up-to-requires-2 : tie.Need-sum-up-to-requires-2 invariant-loop decreases-loop
+sum-up-to-requires-2 : tie.Need-sum_up_to-start-requires-in-loop-i invariant-loop-i decreases-loop-i
 sum-up-to-requires-2 c κs = search rules
 
-add-i : tie.Need-overflow-add-i invariant-loop decreases-loop
+add-i : tie.Need-overflow_step-i invariant-loop-i decreases-loop-i
 add-i c = search rules
 
-loop-less : tie.Need-loop-smaller invariant-loop decreases-loop
+loop-less : tie.Need-loop-i-smaller invariant-loop-i decreases-loop-i
 loop-less c = search rules
 
-loop-again : tie.Need-loop-preserved invariant-loop decreases-loop
+loop-again : tie.Need-loop-i-preserved invariant-loop-i decreases-loop-i
 loop-again c = search rules
 
-same_length : tie.Need-same-length invariant-loop decreases-loop
+same_length : tie.Need-shape_of-target invariant-loop-i decreases-loop-i
 same_length c = search rules
 
-returns-2 : tie.Need-returns-2 invariant-loop decreases-loop
+returns-2 : tie.Need-returns invariant-loop-i decreases-loop-i
 returns-2 c = (search rules, sym (length-take-le _ _ (search rules)))
 
-pub make-row-starts-spec : {M : Type 1} → statement M
-make-row-starts-spec =
+pub make_row_starts_spec : {M : Type 1} → statement M
+make_row_starts_spec =
     tie.close
     (tie.spec
-    invariant-loop
-    decreases-loop
+    invariant-loop-i
+    decreases-loop-i
     returns
     add-count
     sum-up-to-requires

@@ -5,7 +5,7 @@ use borrow.Author.Rules.{rules}
 use Rattle.replay_rules.proofs.product.Statement.{statement}
 use Rattle.replay_rules.proofs.product.Tie as tie
 
-mul-result : tie.Need-overflow-mul-result
+mul-result : tie.Need-overflow_mul-result
 mul-result c =
     let bounded = mul-le-mul c.requires.0 c.requires.1 in
     omega arith
@@ -13,5 +13,5 @@ mul-result c =
 returns : tie.Need-returns
 returns c = search rules
 
-pub product-spec : {M : Type 1} → statement M
-product-spec = tie.close (tie.spec mul-result returns)
+pub product_spec : {M : Type 1} → statement M
+product_spec = tie.close (tie.spec mul-result returns)

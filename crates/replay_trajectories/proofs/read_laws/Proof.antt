@@ -7,69 +7,69 @@ use borrow.Author.Rules.{rules}
 use Rattle.replay_trajectories.proofs.read_laws.Statement.{statement}
 use Rattle.replay_trajectories.proofs.read_laws.Tie as tie
 
-abbrev invariant-loop : tie.invariant-loop
-invariant-loop kind segments fields at target₀ stored count first end next₀ i₀ target next i = length target ≡ length target₀
+abbrev invariant-loop-i : tie.invariant-loop-i
+invariant-loop-i kind segments fields at target₀ stored count first end next₀ i₀ target next i = length target ≡ length target₀
 
-abbrev decreases-loop : tie.decreases-loop
-decreases-loop kind segments fields at target₀ stored count first end next₀ i₀ target next i = count - i
+abbrev decreases-loop-i : tie.decreases-loop-i
+decreases-loop-i kind segments fields at target₀ stored count first end next₀ i₀ target next i = count - i
 
-number32-requires : tie.Need-number32-requires invariant-loop decreases-loop
+number32-requires : tie.Need-number32-count-requires invariant-loop-i decreases-loop-i
 number32-requires c κs = search rules
 
-by-rules-requires : tie.Need-by-rules-requires invariant-loop decreases-loop
+by-rules-requires : tie.Need-by_rules-requires invariant-loop-i decreases-loop-i
 by-rules-requires c κs = search rules
 
-returns : tie.Need-returns invariant-loop decreases-loop
+returns : tie.Need-returns-then-target-length invariant-loop-i decreases-loop-i
 returns c = search rules
 
-further-requires : tie.Need-further-requires invariant-loop decreases-loop
+further-requires : tie.Need-further-first-requires invariant-loop-i decreases-loop-i
 further-requires c κs = search rules
 
-after-slice-requires : tie.Need-after-slice-requires invariant-loop decreases-loop
+after-slice-requires : tie.Need-after_slice-end-requires invariant-loop-i decreases-loop-i
 after-slice-requires c κs = search rules
 
-loop-holds : tie.Need-loop-init invariant-loop decreases-loop
+loop-holds : tie.Need-loop-i-init invariant-loop-i decreases-loop-i
 loop-holds c = search rules
 
-number64-requires : tie.Need-number64-requires invariant-loop decreases-loop
+number64-requires : tie.Need-number64-law-requires invariant-loop-i decreases-loop-i
 number64-requires c κs = search rules
 
-same_length : tie.Need-same-length invariant-loop decreases-loop
+same_length : tie.Need-shape_of-target-then-law-gt255 invariant-loop-i decreases-loop-i
 same_length c = search rules
 
-returns-2 : tie.Need-returns-2 invariant-loop decreases-loop
+returns-2 : tie.Need-returns-then-law-gt255 invariant-loop-i decreases-loop-i
 returns-2 c = search rules
 
-cast-target : tie.Need-overflow-cast-target invariant-loop decreases-loop
+cast-target : tie.Need-overflow_cast-target invariant-loop-i decreases-loop-i
 cast-target c = search rules
 
-slice-write-target : tie.Need-slice-write-target invariant-loop decreases-loop
+slice-write-target : tie.Need-bounds-target-i invariant-loop-i decreases-loop-i
 slice-write-target c = search rules
 
-next-element-requires : tie.Need-next-element-requires invariant-loop decreases-loop
+next-element-requires : tie.Need-next_element-next-requires invariant-loop-i decreases-loop-i
 next-element-requires c κs = search rules
 
-add-i : tie.Need-overflow-add-i invariant-loop decreases-loop
+add-i : tie.Need-overflow_step-i invariant-loop-i decreases-loop-i
 add-i c = search rules
 
-loop-less : tie.Need-loop-smaller invariant-loop decreases-loop
+loop-less : tie.Need-loop-i-smaller invariant-loop-i decreases-loop-i
 loop-less c = search rules
 
-loop-again : tie.Need-loop-preserved invariant-loop decreases-loop
+loop-again : tie.Need-loop-i-preserved invariant-loop-i decreases-loop-i
 loop-again c = search rules
 
-same-length-2 : tie.Need-same-length-2 invariant-loop decreases-loop
+same-length-2 : tie.Need-shape_of-target invariant-loop-i decreases-loop-i
 same-length-2 c = search rules
 
-returns-3 : tie.Need-returns-3 invariant-loop decreases-loop
+returns-3 : tie.Need-returns invariant-loop-i decreases-loop-i
 returns-3 c = (search rules, sym (length-take-le _ _ (search rules)))
 
-pub read-laws-spec : {M : Type 1} → statement M
-read-laws-spec =
+pub read_laws_spec : {M : Type 1} → statement M
+read_laws_spec =
     tie.close
     (tie.spec
-    invariant-loop
-    decreases-loop
+    invariant-loop-i
+    decreases-loop-i
     number32-requires
     by-rules-requires
     returns

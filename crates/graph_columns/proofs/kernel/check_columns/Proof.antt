@@ -31,37 +31,37 @@ module _ (n : ℕ) (cols : List ℕ) (b : Bool) (quick : b ≡ all (λ column. l
   found : b ≡ false → (k : ℕ) → k ≡ first (outside_at n cols) (length cols) → k < length cols
   found = some-fails _ cols 0 (outside_at n cols) (λ k. at-least-is-not-below n (get_or cols k 0)) b quick
 
-columns-inside-requires : tie.Need-columns-inside-requires
+columns-inside-requires : tie.Need-columns_inside-requires
 columns-inside-requires c κs = search rules
 
-returns : tie.Need-returns
+returns : tie.Need-returns-then-columns_inside
 unfolding column_fault
-returns c = accepts-none _ _ _ (none_found _ _ _ c.before.columns-inside.ensures c.if1.true)
+returns c = accepts-none _ _ _ (none_found _ _ _ c.columns_inside.ensures c.if-columns_inside.true)
 
-first-column-outside-requires : tie.Need-first-column-outside-requires
+first-column-outside-requires : tie.Need-first_column_outside-k-requires
 first-column-outside-requires c κs = search rules
 
 -- the walk's answer is an entry
-within : (c : tie.After-first-column-outside)
-    → c.first-column-outside.result < length c.before.before.before.before.before.args.col-idx.now
+within : (c : tie.After-first_column_outside-k)
+    → c.first_column_outside-k.result < length c.args.col_idx.now
 within c =
-    found _ _ _ c.before.before.columns-inside.ensures c.before.if1.false _ c.first-column-outside.ensures
+    found _ _ _ c.columns_inside.ensures c.if-columns_inside.false _ c.first_column_outside-k.ensures
 
-mul-t6 : tie.Need-overflow-mul-t6
+mul-t6 : tie.Need-offset_bounds-col_idx-k
 mul-t6 c = let h = within c in search rules
 
-shared-slice-read-t8 : tie.Need-shared-slice-read-t8
+shared-slice-read-t8 : tie.Need-bounds-col_idx-k
 shared-slice-read-t8 c = within c.before
 
-cast-t9 : tie.Need-overflow-cast-t9
-cast-t9 c = omega (arith, c.shared-slice-known3.given c.before.first-column-outside.result)
+cast-t9 : tie.Need-overflow_cast-result
+cast-t9 c = omega (arith, c.shared_slice_known-3-1.given c.first_column_outside-k.result)
 
-returns-2 : tie.Need-returns-2
+returns-2 : tie.Need-returns
 unfolding column_fault
-returns-2 c = refuses-first _ _ _ _ (within c.before) c.before.first-column-outside.ensures
+returns-2 c = refuses-first _ _ _ _ (within c.before) c.first_column_outside-k.ensures
 
-pub check-columns-spec : {M : Type 1} → statement M
-check-columns-spec =
+pub check_columns_spec : {M : Type 1} → statement M
+check_columns_spec =
     tie.close
     (tie.spec
     columns-inside-requires

@@ -11,46 +11,46 @@ use Rattle.float.proofs.All.{all-of-none, all_more, all-passed}
 use Rattle.graph_columns.proofs.kernel.columns_inside.Statement.{statement}
 use Rattle.graph_columns.proofs.kernel.columns_inside.Tie as tie
 
-abbrev invariant-loop : tie.invariant-loop
-invariant-loop n col-idx nodes passed₀ k₀ k-end passed k =
+abbrev invariant-loop-k : tie.invariant-loop-k
+invariant-loop-k n col-idx nodes passed₀ k₀ k-end passed k =
     (k ≤ length col-idx) × (passed ≡ all (λ column. ltb column n) (take k col-idx))
 
-abbrev decreases-loop : tie.decreases-loop
-decreases-loop n col-idx nodes passed₀ k₀ k-end passed k = length col-idx - k
+abbrev decreases-loop-k : tie.decreases-loop-k
+decreases-loop-k n col-idx nodes passed₀ k₀ k-end passed k = length col-idx - k
 
-cast-nodes : tie.Need-overflow-cast-nodes invariant-loop decreases-loop
+cast-nodes : tie.Need-overflow_cast-nodes invariant-loop-k decreases-loop-k
 cast-nodes c = omega arith
 
-loop-holds : tie.Need-loop-init invariant-loop decreases-loop
+loop-holds : tie.Need-loop-k-init invariant-loop-k decreases-loop-k
 loop-holds c = (omega arith, all-of-none _)
 
-mul-passed : tie.Need-overflow-mul-passed invariant-loop decreases-loop
+mul-passed : tie.Need-offset_bounds-col_idx-k invariant-loop-k decreases-loop-k
 mul-passed c =
-    let h : c.before.loop.k < length c.before.before.args.col-idx.now = c.loop-test.true in
+    let h : c.loop-k.k < length c.args.col_idx.now = c.loop-k-test.true in
     search rules
 
-shared-slice-read-passed : tie.Need-shared-slice-read-passed invariant-loop decreases-loop
+shared-slice-read-passed : tie.Need-bounds-col_idx-k invariant-loop-k decreases-loop-k
 shared-slice-read-passed c = omega arith
 
-add-k : tie.Need-overflow-add-k invariant-loop decreases-loop
+add-k : tie.Need-overflow_step-k invariant-loop-k decreases-loop-k
 add-k c = omega arith
 
-loop-less : tie.Need-loop-smaller invariant-loop decreases-loop
+loop-less : tie.Need-loop-k-smaller invariant-loop-k decreases-loop-k
 loop-less c = omega arith
 
-loop-again : tie.Need-loop-preserved invariant-loop decreases-loop
+loop-again : tie.Need-loop-k-preserved invariant-loop-k decreases-loop-k
 loop-again c =
-    (omega arith, all_more _ _ 0 _ _ _ c.before.loop-test.true c.before.before.loop.invariant.1 refl)
+    (omega arith, all_more _ _ 0 _ _ _ c.loop-k-test.true c.loop-k.invariant.1 refl)
 
-returns : tie.Need-returns invariant-loop decreases-loop
-returns c = all-passed _ _ _ _ c.loop-test.false c.before.loop.invariant.1
+returns : tie.Need-returns invariant-loop-k decreases-loop-k
+returns c = all-passed _ _ _ _ c.loop-k-test.false c.loop-k.invariant.1
 
-pub columns-inside-spec : {M : Type 1} → statement M
-columns-inside-spec =
+pub columns_inside_spec : {M : Type 1} → statement M
+columns_inside_spec =
     tie.close
     (tie.spec
-    invariant-loop
-    decreases-loop
+    invariant-loop-k
+    decreases-loop-k
     cast-nodes
     loop-holds
     mul-passed

@@ -11,11 +11,11 @@ use Rattle.graph_shape.proofs.Walk.{Reached, reached-none, reached-more, reached
 use Rattle.graph_columns.proofs.kernel.first_column_outside.Statement.{statement}
 use Rattle.graph_columns.proofs.kernel.first_column_outside.Tie as tie
 
-abbrev invariant-loop : tie.invariant-loop
-invariant-loop n row-ptr col-idx k₀ i end i-end k = Passed (outside_at n col-idx) (length col-idx) k
+abbrev invariant-loop-k : tie.invariant-loop-k
+invariant-loop-k n row-ptr col-idx k₀ i end i-end k = Passed (outside_at n col-idx) (length col-idx) k
 
-abbrev decreases-loop : tie.decreases-loop
-decreases-loop n row-ptr col-idx k₀ i end i-end k = end - k
+abbrev decreases-loop-k : tie.decreases-loop-k
+decreases-loop-k n row-ptr col-idx k₀ i end i-end k = end - k
 
 abbrev invariant-rows : tie.invariant-rows
 invariant-rows n row-ptr col-idx k₀ i₀ i-end k i =
@@ -25,72 +25,71 @@ abbrev decreases-rows : tie.decreases-rows
 decreases-rows n row-ptr col-idx k₀ i₀ i-end k i = n + 1 - i
 
 -- the entry that the inner loop looks at
-within : (c : tie.In-loop invariant-loop decreases-loop invariant-rows decreases-rows)
-    → c.before.loop.k < length c.before.before.before.before.before.args.col-idx.now
+within : (c : tie.In-loop-k invariant-loop-k decreases-loop-k invariant-rows decreases-rows)
+    → c.loop-k.k < length c.args.col_idx.now
 within c =
-    let turn = c.before.before.before in
-    stored turn.before.before.requires turn.rows-test.true c.loop-test.true
+    stored c.requires c.rows-test.true c.loop-k-test.true
 
-add-i-end : tie.Need-overflow-add-i-end invariant-loop decreases-loop invariant-rows decreases-rows
+add-i-end : tie.Need-overflow_add-i-end invariant-loop-k decreases-loop-k invariant-rows decreases-rows
 add-i-end c = omega arith
 
-rows-holds : tie.Need-rows-init invariant-loop decreases-loop invariant-rows decreases-rows
+rows-holds : tie.Need-rows-init invariant-loop-k decreases-loop-k invariant-rows decreases-rows
 rows-holds c = (omega arith, passed_none, reached-none)
 
-mul-end : tie.Need-overflow-mul-end invariant-loop decreases-loop invariant-rows decreases-rows
+mul-end : tie.Need-offset_bounds-row_ptr-i invariant-loop-k decreases-loop-k invariant-rows decreases-rows
 mul-end c =
-    let h : c.before.rows.i < length c.before.before.args.row-ptr.now = omega arith in
+    let h : c.rows.i < length c.args.row_ptr.now = omega arith in
     search rules
 
-shared-slice-read-end : tie.Need-shared-slice-read-end invariant-loop decreases-loop invariant-rows decreases-rows
+shared-slice-read-end : tie.Need-bounds-row_ptr-i invariant-loop-k decreases-loop-k invariant-rows decreases-rows
 shared-slice-read-end c = omega arith
 
-loop-holds : tie.Need-loop-init invariant-loop decreases-loop invariant-rows decreases-rows
-loop-holds c = c.before.before.rows.invariant.1
+loop-holds : tie.Need-loop-k-init invariant-loop-k decreases-loop-k invariant-rows decreases-rows
+loop-holds c = c.rows.invariant.1
 
-mul-if1 : tie.Need-overflow-mul-if1 invariant-loop decreases-loop invariant-rows decreases-rows
+mul-if1 : tie.Need-offset_bounds-col_idx-k invariant-loop-k decreases-loop-k invariant-rows decreases-rows
 mul-if1 c = let h = within c in search rules
 
-shared-slice-read-if1 : tie.Need-shared-slice-read-if1 invariant-loop decreases-loop invariant-rows decreases-rows
+shared-slice-read-if1 : tie.Need-bounds-col_idx-k invariant-loop-k decreases-loop-k invariant-rows decreases-rows
 shared-slice-read-if1 c = within c.before
 
-cast-if1 : tie.Need-overflow-cast-if1 invariant-loop decreases-loop invariant-rows decreases-rows
-cast-if1 c = omega (arith, c.shared-slice-known2.given c.before.before.loop.k)
+cast-if1 : tie.Need-overflow_cast-col_idx invariant-loop-k decreases-loop-k invariant-rows decreases-rows
+cast-if1 c = omega (arith, c.shared_slice_known-in-loop-k-1.given c.loop-k.k)
 
-add-k : tie.Need-overflow-add-k invariant-loop decreases-loop invariant-rows decreases-rows
+add-k : tie.Need-overflow_add-k invariant-loop-k decreases-loop-k invariant-rows decreases-rows
 add-k c = let h = within c.before.before in omega arith
 
-loop-less : tie.Need-loop-smaller invariant-loop decreases-loop invariant-rows decreases-rows
+loop-less : tie.Need-loop-k-smaller invariant-loop-k decreases-loop-k invariant-rows decreases-rows
 loop-less c = omega arith
 
-loop-again : tie.Need-loop-preserved invariant-loop decreases-loop invariant-rows decreases-rows
+loop-again : tie.Need-loop-k-preserved invariant-loop-k decreases-loop-k invariant-rows decreases-rows
 loop-again c =
-    passed-more c.before.before.before.loop.invariant (within c.before.before) (lt-leb _ _ c.if1.false)
+    passed-more c.loop-k.invariant (within c.before.before) (lt-leb _ _ c.if-col_idx-k.false)
 
-add-i : tie.Need-overflow-add-i invariant-loop decreases-loop invariant-rows decreases-rows
+add-i : tie.Need-overflow_step-i invariant-loop-k decreases-loop-k invariant-rows decreases-rows
 add-i c = omega arith
 
-rows-less : tie.Need-rows-smaller invariant-loop decreases-loop invariant-rows decreases-rows
+rows-less : tie.Need-rows-smaller invariant-loop-k decreases-loop-k invariant-rows decreases-rows
 rows-less c = omega arith
 
-rows-again : tie.Need-rows-preserved invariant-loop decreases-loop invariant-rows decreases-rows
-rows-again c = (omega arith, c.before.loop.invariant, reached-more _ c.loop-test.false)
+rows-again : tie.Need-rows-preserved invariant-loop-k decreases-loop-k invariant-rows decreases-rows
+rows-again c = (omega arith, c.loop-k.invariant, reached-more _ c.loop-k-test.false)
 
-returns : tie.Need-returns invariant-loop decreases-loop invariant-rows decreases-rows
+returns : tie.Need-returns-after-rows invariant-loop-k decreases-loop-k invariant-rows decreases-rows
 returns c =
-    let walk = c.before.rows in
+    let walk = c.rows in
     passed-all walk.invariant.1
-    (reached-all c.before.before.requires walk.invariant.0 c.rows-test.false walk.invariant.2)
+    (reached-all c.requires walk.invariant.0 c.rows-test.false walk.invariant.2)
 
-returns-2 : tie.Need-returns-2 invariant-loop decreases-loop invariant-rows decreases-rows
-returns-2 c = passed-found c.before.before.before.loop.invariant (le-leb _ _ c.if1.true)
+returns-2 : tie.Need-returns-then-col_idx-k invariant-loop-k decreases-loop-k invariant-rows decreases-rows
+returns-2 c = passed-found c.loop-k.invariant (le-leb _ _ c.if-col_idx-k.true)
 
-pub first-column-outside-spec : {M : Type 1} → statement M
-first-column-outside-spec =
+pub first_column_outside_spec : {M : Type 1} → statement M
+first_column_outside_spec =
     tie.close
     (tie.spec
-    invariant-loop
-    decreases-loop
+    invariant-loop-k
+    decreases-loop-k
     invariant-rows
     decreases-rows
     add-i-end

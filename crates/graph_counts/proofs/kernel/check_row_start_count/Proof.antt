@@ -5,16 +5,16 @@ use Rattle.graph_counts.specs.CountChecks.{row_start_count_fault}
 use Rattle.graph_counts.proofs.kernel.check_row_start_count.Statement.{statement}
 use Rattle.graph_counts.proofs.kernel.check_row_start_count.Tie as tie
 
-add-if1 : tie.Need-overflow-add-if1
+add-if1 : tie.Need-overflow_add-n
 add-if1 c = omega arith
 
-returns : tie.Need-returns
+returns : tie.Need-returns-then-count-n
 unfolding row_start_count_fault
-returns c = accepts-equal _ _ _ c.if1.true
+returns c = accepts-equal _ _ _ c.if-count-n.true
 
-returns-2 : tie.Need-returns-2
+returns-2 : tie.Need-returns-else-count-n
 unfolding row_start_count_fault
-returns-2 c = refuses-unequal _ _ _ c.if1.false
+returns-2 c = refuses-unequal _ _ _ c.if-count-n.false
 
-pub check-row-start-count-spec : {M : Type 1} → statement M
-check-row-start-count-spec = tie.close (tie.spec add-if1 returns returns-2)
+pub check_row_start_count_spec : {M : Type 1} → statement M
+check_row_start_count_spec = tie.close (tie.spec add-if1 returns returns-2)

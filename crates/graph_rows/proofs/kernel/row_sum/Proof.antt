@@ -12,93 +12,90 @@ use Rattle.graph_rows.proofs.RowEntries.{entry-stored, entry-column}
 use Rattle.graph_rows.proofs.kernel.row_sum.Statement.{statement}
 use Rattle.graph_rows.proofs.kernel.row_sum.Tie as tie
 
-abbrev invariant-loop : tie.invariant-loop
-invariant-loop row-ptr col-idx vals src i acc₀ k₀ k-end acc k =
+abbrev invariant-loop-k : tie.invariant-loop-k
+invariant-loop-k row-ptr col-idx vals src i acc₀ k₀ k-end acc k =
     (k₀ ≤ k) × (k ≤ k-end) × (acc ≡ entries (ieee binary64) col-idx vals src k₀ k)
 
-abbrev decreases-loop : tie.decreases-loop
-decreases-loop row-ptr col-idx vals src i acc₀ k₀ k-end acc k = k-end - k
+abbrev decreases-loop-k : tie.decreases-loop-k
+decreases-loop-k row-ptr col-idx vals src i acc₀ k₀ k-end acc k = k-end - k
 
 -- in a turn the entry is stored, and its column is a node
-stored : (c : tie.In-loop invariant-loop decreases-loop)
-    → c.before.loop.k < length c.before.before.before.before.args.col-idx.now
+stored : (c : tie.In-loop-k invariant-loop-k decreases-loop-k)
+    → c.loop-k.k < length c.args.col_idx.now
 stored c =
-    let start = c.before.before.before.before in
-    entry-stored start.requires.0.rows start.args.i _ start.requires.1.1 c.loop-test.true
+    entry-stored c.requires.0.rows c.args.i _ c.requires.1.1 c.loop-k-test.true
 
-node : (c : tie.In-loop invariant-loop decreases-loop)
+node : (c : tie.In-loop-k invariant-loop-k decreases-loop-k)
     → let start = c.before.before.before.before in
-    get_or start.args.col-idx.now c.before.loop.k 0 < length start.args.src.now
+    get_or c.args.col_idx.now c.loop-k.k 0 < length c.args.src.now
 node c =
     let start = c.before.before.before.before in
-    entry-column start.requires.0 start.args.i _ start.requires.1.1 c.loop-test.true
+    entry-column c.requires.0 c.args.i _ c.requires.1.1 c.loop-k-test.true
 
-mul-k : tie.Need-overflow-mul-k invariant-loop decreases-loop
+mul-k : tie.Need-offset_bounds-row_ptr-i invariant-loop-k decreases-loop-k
 mul-k c = omega arith
 
-shared-slice-read-k : tie.Need-shared-slice-read-k invariant-loop decreases-loop
+shared-slice-read-k : tie.Need-bounds-row_ptr-i invariant-loop-k decreases-loop-k
 shared-slice-read-k c = omega arith
 
-add-k-end : tie.Need-overflow-add-k-end invariant-loop decreases-loop
+add-k-end : tie.Need-overflow_add-k-end invariant-loop-k decreases-loop-k
 add-k-end c = omega arith
 
-mul-k-end : tie.Need-overflow-mul-k-end invariant-loop decreases-loop
+mul-k-end : tie.Need-offset_bounds-row_ptr-i-2 invariant-loop-k decreases-loop-k
 mul-k-end c = omega arith
 
-shared-slice-read-k-end : tie.Need-shared-slice-read-k-end invariant-loop decreases-loop
+shared-slice-read-k-end : tie.Need-bounds-row_ptr-i-2 invariant-loop-k decreases-loop-k
 shared-slice-read-k-end c = omega arith
 
-loop-holds : tie.Need-loop-init invariant-loop decreases-loop
+loop-holds : tie.Need-loop-k-init invariant-loop-k decreases-loop-k
 loop-holds c =
-    let start = c.before.before in
-    let rising = start.requires.0.rows.rising start.args.i start.requires.1.1 in
+    let rising = c.requires.0.rows.rising c.args.i c.requires.1.1 in
     (omega arith, rising, sym (entries_none (ieee binary64) _ _ _ _))
 
-mul-c : tie.Need-overflow-mul-c invariant-loop decreases-loop
+mul-c : tie.Need-offset_bounds-col_idx-k invariant-loop-k decreases-loop-k
 mul-c c = omega (arith, stored c)
 
-shared-slice-read-c : tie.Need-shared-slice-read-c invariant-loop decreases-loop
+shared-slice-read-c : tie.Need-bounds-col_idx-k invariant-loop-k decreases-loop-k
 shared-slice-read-c c = omega (arith, stored c.before)
 
-cast-c : tie.Need-overflow-cast-c invariant-loop decreases-loop
+cast-c : tie.Need-overflow_cast-c invariant-loop-k decreases-loop-k
 cast-c c = omega (arith, node c.before)
 
-mul-acc : tie.Need-overflow-mul-acc invariant-loop decreases-loop
+mul-acc : tie.Need-offset_bounds-vals-k invariant-loop-k decreases-loop-k
 mul-acc c = omega (arith, stored c.before)
 
-shared-slice-read-acc : tie.Need-shared-slice-read-acc invariant-loop decreases-loop
+shared-slice-read-acc : tie.Need-bounds-vals-k invariant-loop-k decreases-loop-k
 shared-slice-read-acc c = omega (arith, stored c.before.before)
 
-mul-acc-2 : tie.Need-overflow-mul-acc-2 invariant-loop decreases-loop
+mul-acc-2 : tie.Need-offset_bounds-src-c invariant-loop-k decreases-loop-k
 mul-acc-2 c = omega (arith, node c.before.before)
 
-shared-slice-read-acc-2 : tie.Need-shared-slice-read-acc-2 invariant-loop decreases-loop
+shared-slice-read-acc-2 : tie.Need-bounds-src-c invariant-loop-k decreases-loop-k
 shared-slice-read-acc-2 c = omega (arith, node c.before.before.before)
 
-add-k : tie.Need-overflow-add-k invariant-loop decreases-loop
+add-k : tie.Need-overflow_step-k invariant-loop-k decreases-loop-k
 add-k c = omega (arith, stored c.before.before.before)
 
-loop-less : tie.Need-loop-smaller invariant-loop decreases-loop
+loop-less : tie.Need-loop-k-smaller invariant-loop-k decreases-loop-k
 loop-less c = omega arith
 
-loop-again : tie.Need-loop-preserved invariant-loop decreases-loop
+loop-again : tie.Need-loop-k-preserved invariant-loop-k decreases-loop-k
 loop-again c =
-    let loop = c.before.before.before.before.loop in
+    let loop = c.loop-k in
     (omega arith, omega arith, rw loop.invariant.2 (sym (entries_next (ieee binary64) _ _ _ _ _ loop.invariant.0)))
 
-returns : tie.Need-returns invariant-loop decreases-loop
+returns : tie.Need-returns invariant-loop-k decreases-loop-k
 unfolding row_sum
 returns c =
-    let start = c.before.before.before.before in
-    let last : c.before.loop.k ≡ get_or start.args.row-ptr.now (start.args.i + 1) 0 = omega arith in
-    c.before.loop.invariant.2 ∙ ap (entries (ieee binary64) _ _ _ _) last
+    let last : c.loop-k.k ≡ get_or c.args.row_ptr.now (c.args.i + 1) 0 = omega arith in
+    c.loop-k.invariant.2 ∙ ap (entries (ieee binary64) _ _ _ _) last
 
-pub row-sum-spec : {M : Type 1} → statement M
-row-sum-spec =
+pub row_sum_spec : {M : Type 1} → statement M
+row_sum_spec =
     tie.close
     (tie.spec
-    invariant-loop
-    decreases-loop
+    invariant-loop-k
+    decreases-loop-k
     mul-k
     shared-slice-read-k
     add-k-end

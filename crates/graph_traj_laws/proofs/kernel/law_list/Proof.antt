@@ -4,44 +4,44 @@ use Rattle.graph_traj_laws.proofs.Laws.{law-start, law-end}
 use Rattle.graph_traj_laws.proofs.kernel.law_list.Statement.{statement}
 use Rattle.graph_traj_laws.proofs.kernel.law_list.Tie as tie
 
-mul-from : tie.Need-overflow-mul-from
+mul-from : tie.Need-overflow_mul-from
 mul-from c = search rules
 
-add-to : tie.Need-overflow-add-to
+add-to : tie.Need-overflow_add-to
 add-to c = search rules
 
-mul-result : tie.Need-overflow-mul-result
+mul-result : tie.Need-offset_bounds-starts-from
 mul-result c = search rules
 
-sub-result : tie.Need-overflow-sub-result
+sub-result : tie.Need-slice_bounds-result-count
 sub-result c = search rules
 
-part-result-start : tie.Need-slice-bounds-result-start
+part-result-start : tie.Need-slice_bounds-result-start
 part-result-start c = search rules
 
-part-result-end : tie.Need-slice-bounds-result-end
+part-result-end : tie.Need-slice_bounds-result-end
 part-result-end c = search rules
 
-returns : tie.Need-returns
-returns c = law-start _ _ _ _ _ c.before.if1.true
+returns : tie.Need-returns-then-law-eq0
+returns c = law-start _ _ _ _ _ c.if-law-eq0.true
 
-mul-result-2 : tie.Need-overflow-mul-result-2
+mul-result-2 : tie.Need-offset_bounds-ends-from
 mul-result-2 c = search rules
 
-sub-result-2 : tie.Need-overflow-sub-result-2
+sub-result-2 : tie.Need-slice_bounds-result-count-2
 sub-result-2 c = search rules
 
-part-result-start-2 : tie.Need-slice-bounds-result-start-2
+part-result-start-2 : tie.Need-slice_bounds-result-start-2
 part-result-start-2 c = search rules
 
-part-result-end-2 : tie.Need-slice-bounds-result-end-2
+part-result-end-2 : tie.Need-slice_bounds-result-end-2
 part-result-end-2 c = search rules
 
-returns-2 : tie.Need-returns-2
-returns-2 c = law-end _ _ _ _ _ c.before.if1.false
+returns-2 : tie.Need-returns
+returns-2 c = law-end _ _ _ _ _ c.if-law-eq0.false
 
-pub law-list-spec : {M : Type 1} → statement M
-law-list-spec =
+pub law_list_spec : {M : Type 1} → statement M
+law_list_spec =
     tie.close
     (tie.spec
     mul-from

@@ -8,5 +8,5 @@ returns : tie.Need-returns
 unfolding law_value
 returns c = refl
 
-pub law-value-spec : {M : Type 1} → statement M
-law-value-spec = tie.close (tie.spec returns)
+pub law_value_spec : {M : Type 1} → statement M
+law_value_spec = tie.close (tie.spec returns)

@@ -22,34 +22,34 @@ module _ (vals : List Float) (b : Bool) (quick : b ≡ all finite vals) where
   found : b ≡ false → (k : ℕ) → k ≡ first (not_finite_at vals) (length vals) → k < length vals
   found = some-fails finite vals nan (not_finite_at vals) (λ k. refl) b quick
 
-all-finite-requires : tie.Need-all-finite-requires
+all-finite-requires : tie.Need-all_finite-requires
 all-finite-requires c κs = search rules
 
-returns : tie.Need-returns
+returns : tie.Need-returns-then-all_finite
 unfolding value_fault
-returns c = accepts-none _ _ _ (none_found _ _ c.before.all-finite.ensures c.if1.true)
+returns c = accepts-none _ _ _ (none_found _ _ c.all_finite.ensures c.if-all_finite.true)
 
-first-value-not-finite-requires : tie.Need-first-value-not-finite-requires
+first-value-not-finite-requires : tie.Need-first_value_not_finite-k-requires
 first-value-not-finite-requires c κs = search rules
 
 -- the walk's answer is an entry
-within : (c : tie.After-first-value-not-finite)
-    → c.first-value-not-finite.result < length c.before.before.before.before.before.args.vals.now
+within : (c : tie.After-first_value_not_finite-k)
+    → c.first_value_not_finite-k.result < length c.args.vals.now
 within c =
-    found _ _ c.before.before.all-finite.ensures c.before.if1.false _ c.first-value-not-finite.ensures
+    found _ _ c.all_finite.ensures c.if-all_finite.false _ c.first_value_not_finite-k.ensures
 
-mul-t6 : tie.Need-overflow-mul-t6
+mul-t6 : tie.Need-offset_bounds-vals-k
 mul-t6 c = let h = within c in search rules
 
-shared-slice-read-t8 : tie.Need-shared-slice-read-t8
+shared-slice-read-t8 : tie.Need-bounds-vals-k
 shared-slice-read-t8 c = within c.before
 
-returns-2 : tie.Need-returns-2
+returns-2 : tie.Need-returns
 unfolding value_fault
-returns-2 c = refuses-first _ _ _ _ (within c.before) c.before.first-value-not-finite.ensures
+returns-2 c = refuses-first _ _ _ _ (within c.before) c.first_value_not_finite-k.ensures
 
-pub check-values-spec : {M : Type 1} → statement M
-check-values-spec =
+pub check_values_spec : {M : Type 1} → statement M
+check_values_spec =
     tie.close
     (tie.spec
     all-finite-requires

@@ -11,19 +11,19 @@ has-requires c κs = search rules
 field-requires : tie.Need-field-requires
 field-requires c κs = search rules
 
-real-at-requires : tie.Need-real-at-requires
+real-at-requires : tie.Need-real_at-requires
 real-at-requires c κs = search rules
 
-returns : tie.Need-returns
+returns : tie.Need-returns-then-has
 unfolding job_bound
 returns c =
-    let bytes = c.before.before.before.before.before.args.job.now in
-    let has = sym c.before.before.before.has.ensures ∙ c.before.before.if1.true in
-    rw has (c.real-at.ensures ∙ ap (real bytes) c.before.field.ensures.0.0)
+    let bytes = c.args.job.now in
+    let has = sym c.has.ensures ∙ c.if-has.true in
+    rw has (c.real_at.ensures ∙ ap (real bytes) c.field.ensures.0.0)
 
-returns-2 : tie.Need-returns-2
+returns-2 : tie.Need-returns
 unfolding job_bound
-returns-2 c = let lacks = sym c.before.has.ensures ∙ c.if1.false in rw lacks
+returns-2 c = let lacks = sym c.has.ensures ∙ c.if-has.false in rw lacks
 
-pub bound-spec : {M : Type 1} → statement M
-bound-spec = tie.close (tie.spec has-requires field-requires real-at-requires returns returns-2)
+pub bound_spec : {M : Type 1} → statement M
+bound_spec = tie.close (tie.spec has-requires field-requires real-at-requires returns returns-2)

@@ -6,15 +6,15 @@ use borrow.Author.Rules.{rules}
 use Rattle.job_numbers.proofs.kernel.has.Statement.{statement}
 use Rattle.job_numbers.proofs.kernel.has.Tie as tie
 
-head-of-requires : tie.Need-head-of-requires
+head-of-requires : tie.Need-head_of-head-requires
 head-of-requires c κs = search rules
 
-stands-in-requires : tie.Need-stands-in-requires
+stands-in-requires : tie.Need-stands_in-requires
 stands-in-requires c κs = search rules
 
 returns : tie.Need-returns
 unfolding job_has
-returns c = c.stands-in.ensures ∙ ap (λ (map : ℕ). stands map c.before.before.before.args.bit) c.before.head_of.ensures.0.0
+returns c = c.stands_in.ensures ∙ ap (λ (map : ℕ). stands map c.args.bit) c.head_of-head.ensures.0.0
 
-pub has-spec : {M : Type 1} → statement M
-has-spec = tie.close (tie.spec head-of-requires stands-in-requires returns)
+pub has_spec : {M : Type 1} → statement M
+has_spec = tie.close (tie.spec head-of-requires stands-in-requires returns)

@@ -9,5 +9,5 @@ has-requires c κs = search rules
 returns : tie.Need-returns
 returns c = c.has.ensures
 
-pub is-order6-spec : {M : Type 1} → statement M
-is-order6-spec = tie.close (tie.spec has-requires returns)
+pub is_order6_spec : {M : Type 1} → statement M
+is_order6_spec = tie.close (tie.spec has-requires returns)

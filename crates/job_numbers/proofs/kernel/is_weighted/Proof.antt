@@ -9,5 +9,5 @@ has-requires c κs = search rules
 returns : tie.Need-returns
 returns c = c.has.ensures
 
-pub is-weighted-spec : {M : Type 1} → statement M
-is-weighted-spec = tie.close (tie.spec has-requires returns)
+pub is_weighted_spec : {M : Type 1} → statement M
+is_weighted_spec = tie.close (tie.spec has-requires returns)

@@ -9,12 +9,12 @@ use Rattle.job_numbers.proofs.kernel.real_at.Tie as tie
 word64-requires : tie.Need-word64-requires
 word64-requires c κs = search rules
 
-from-bits-requires : tie.Need-from-bits-requires
+from-bits-requires : tie.Need-from_bits-requires
 from-bits-requires c κs = search rules
 
 returns : tie.Need-returns
 unfolding real
-returns c = c.from-bits.ensures ∙ ap (of_bits binary64) c.before.word64.ensures
+returns c = c.from_bits.ensures ∙ ap (of_bits binary64) c.word64.ensures
 
-pub real-at-spec : {M : Type 1} → statement M
-real-at-spec = tie.close (tie.spec word64-requires from-bits-requires returns)
+pub real_at_spec : {M : Type 1} → statement M
+real_at_spec = tie.close (tie.spec word64-requires from-bits-requires returns)

@@ -8,12 +8,12 @@ use Rattle.job_numbers.proofs.kernel.tau.Tie as tie
 field-requires : tie.Need-field-requires
 field-requires c κs = search rules
 
-real-at-requires : tie.Need-real-at-requires
+real-at-requires : tie.Need-real_at-requires
 real-at-requires c κs = search rules
 
 returns : tie.Need-returns
 unfolding job_tau
-returns c = c.real-at.ensures ∙ ap (real c.before.before.before.args.job.now) c.before.field.ensures.0.0
+returns c = c.real_at.ensures ∙ ap (real c.args.job.now) c.field.ensures.0.0
 
-pub tau-spec : {M : Type 1} → statement M
-tau-spec = tie.close (tie.spec field-requires real-at-requires returns)
+pub tau_spec : {M : Type 1} → statement M
+tau_spec = tie.close (tie.spec field-requires real-at-requires returns)

@@ -34,23 +34,23 @@ places-below t = and 0 places-kinds.ps (falls 0 places-kinds.ps ◌<◌ μ-place
 places-places-requires :
     (t : ℕ) →
     places-lts.Need-places-requires (places-below t, places.Post) (places-at t) places.Post
-places-places-requires t c κs = (fewer _ t (omega arith) c.before.requires.0, tt)
+places-places-requires t c κs = (fewer _ t (omega arith) c.requires.0, tt)
 
 places-add-result :
-    (t : ℕ) → places-lts.Need-overflow-add-result (places-below t, places.Post) (places-at t) places.Post
+    (t : ℕ) → places-lts.Need-overflow_add-result (places-below t, places.Post) (places-at t) places.Post
 places-add-result t c =
-    omega (arith, count_fits _ _ c.before.before.ranges.n.fits c.places.ensures)
+    omega (arith, count_fits _ _ c.ranges.n.fits c.places.ensures)
 
 places-returns :
-    (t : ℕ) → places-lts.Need-returns (places-below t, places.Post) (places-at t) places.Post
-places-returns t c = sym (places-one _ c.if1.true)
+    (t : ℕ) → places-lts.Need-returns-then-n-lt10 (places-below t, places.Post) (places-at t) places.Post
+places-returns t c = sym (places-one _ c.if-n-lt10.true)
 
 places-returns-2 :
-    (t : ℕ) → places-lts.Need-returns-2 (places-below t, places.Post) (places-at t) places.Post
-places-returns-2 t c = ap (λ (k : ℕ). k + 1) c.places.ensures ∙ sym (places-more _ c.before.if1.false)
+    (t : ℕ) → places-lts.Need-returns-else-n-lt10 (places-below t, places.Post) (places-at t) places.Post
+places-returns-2 t c = ap (λ (k : ℕ). k + 1) c.places.ensures ∙ sym (places-more _ c.if-n-lt10.false)
 
-pub +places-spec : {M : Type 1} → statement M
-+places-spec =
+pub +places_spec : {M : Type 1} → statement M
++places_spec =
     close
     μ-places
     λ t. places-lts.spec

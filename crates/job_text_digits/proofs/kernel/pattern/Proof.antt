@@ -12,14 +12,14 @@ quiet-nan : of_bits binary64 0x7FF8000000000000 ≡ nan
 unfolding of_bits
 quiet-nan = refl
 
-float-to-bits-result : tie.Need-float-to-bits-result
-float-to-bits-result c = equal-to-itself _ c.if1.false
+float-to-bits-result : tie.Need-float_to_bits-result
+float-to-bits-result c = equal-to-itself _ c.if-x.false
 
-returns : tie.Need-returns
-returns c = quiet-nan ∙ sym (unequal-to-itself _ c.if1.true)
+returns : tie.Need-returns-then-x
+returns c = quiet-nan ∙ sym (unequal-to-itself _ c.if-x.true)
 
-returns-2 : tie.Need-returns-2
-returns-2 c = of_bits-to_bits binary64 _ (subst T (sym c.before.well-formed.0.1) tt)
+returns-2 : tie.Need-returns-else-x
+returns-2 c = of_bits-to_bits binary64 _ (subst T (sym c.well_formed.0.1) tt)
 
-pub pattern-spec : {M : Type 1} → statement M
-pattern-spec = tie.close (tie.spec float-to-bits-result returns returns-2)
+pub pattern_spec : {M : Type 1} → statement M
+pattern_spec = tie.close (tie.spec float-to-bits-result returns returns-2)

@@ -52,7 +52,7 @@ abbrev put-digits-below : ℕ → In 1 put-digits-kinds.ps
 put-digits-below t =
     and 1 put-digits-kinds.ps (falls 1 put-digits-kinds.ps ◌<◌ μ-put-digits t) put-digits.Pre
 
-put-digits-returns : (t : ℕ) → put-digits-lts.Need-returns (
+put-digits-returns : (t : ℕ) → put-digits-lts.Need-returns-then-k-eq0 (
   put-digits-below t,
   put-digits.Post,
   digit-reads.Asked,
@@ -60,9 +60,9 @@ put-digits-returns : (t : ℕ) → put-digits-lts.Need-returns (
   put-byte-reads.Asked,
   put-byte-reads.Learnt,
 ) (put-digits-at t) put-digits.Post
-put-digits-returns t c = no-digits _ _ c.if1.true _ _ _
+put-digits-returns t c = no-digits _ _ c.if-k-eq0.true _ _ _
 
-put-digits-sub-put-digits : (t : ℕ) → put-digits-lts.Need-overflow-sub-put-digits (
+put-digits-sub-put-digits : (t : ℕ) → put-digits-lts.Need-overflow_sub-k (
   put-digits-below t,
   put-digits.Post,
   digit-reads.Asked,
@@ -72,7 +72,7 @@ put-digits-sub-put-digits : (t : ℕ) → put-digits-lts.Need-overflow-sub-put-d
 ) (put-digits-at t) put-digits.Post
 put-digits-sub-put-digits t c = omega arith
 
-put-digits-div-put-digits : (t : ℕ) → put-digits-lts.Need-nonzero-div-put-digits (
+put-digits-div-put-digits : (t : ℕ) → put-digits-lts.Need-nonzero_div-n (
   put-digits-below t,
   put-digits.Post,
   digit-reads.Asked,
@@ -80,9 +80,9 @@ put-digits-div-put-digits : (t : ℕ) → put-digits-lts.Need-nonzero-div-put-di
   put-byte-reads.Asked,
   put-byte-reads.Learnt,
 ) (put-digits-at t) put-digits.Post
-put-digits-div-put-digits t c = c.before.before.before.requires.1.0
+put-digits-div-put-digits t c = c.requires.1.0
 
-put-digits-put-digits-requires : (t : ℕ) → put-digits-lts.Need-put-digits-requires (
+put-digits-put-digits-requires : (t : ℕ) → put-digits-lts.Need-put_digits-last-requires (
   put-digits-below t,
   put-digits.Post,
   digit-reads.Asked,
@@ -91,10 +91,10 @@ put-digits-put-digits-requires : (t : ℕ) → put-digits-lts.Need-put-digits-re
   put-byte-reads.Learnt,
 ) (put-digits-at t) put-digits.Post
 put-digits-put-digits-requires t c κs =
-    let pre = c.before.before.before.requires in
-    (fewer _ t c.before.if1.false pre.0, (pre.1.0, pre.1.1, omega arith))
+    let pre = c.requires in
+    (fewer _ t c.if-k-eq0.false pre.0, (pre.1.0, pre.1.1, omega arith))
 
-put-digits-rem-digit : (t : ℕ) → put-digits-lts.Need-nonzero-rem-digit (
+put-digits-rem-digit : (t : ℕ) → put-digits-lts.Need-nonzero_rem-n (
   put-digits-below t,
   put-digits.Post,
   digit-reads.Asked,
@@ -102,7 +102,7 @@ put-digits-rem-digit : (t : ℕ) → put-digits-lts.Need-nonzero-rem-digit (
   put-byte-reads.Asked,
   put-byte-reads.Learnt,
 ) (put-digits-at t) put-digits.Post
-put-digits-rem-digit t c = c.before.before.before.before.before.before.before.requires.1.0
+put-digits-rem-digit t c = c.requires.1.0
 
 put-digits-digit-requires : (t : ℕ) → put-digits-lts.Need-digit-requires (
   put-digits-below t,
@@ -113,10 +113,10 @@ put-digits-digit-requires : (t : ℕ) → put-digits-lts.Need-digit-requires (
   put-byte-reads.Learnt,
 ) (put-digits-at t) put-digits.Post
 put-digits-digit-requires t c κs =
-    let pre = c.before.before.before.before.before.before.before.requires in
+    let pre = c.requires in
     below-sixteen _ _ pre.1.0 pre.1.1
 
-put-digits-put-byte-requires : (t : ℕ) → put-digits-lts.Need-put-byte-requires (
+put-digits-put-byte-requires : (t : ℕ) → put-digits-lts.Need-put_byte-requires (
   put-digits-below t,
   put-digits.Post,
   digit-reads.Asked,
@@ -125,11 +125,10 @@ put-digits-put-byte-requires : (t : ℕ) → put-digits-lts.Need-put-byte-requir
   put-byte-reads.Learnt,
 ) (put-digits-at t) put-digits.Post
 put-digits-put-byte-requires t c κs =
-    let start = c.before.before.before.before.before.before.before.before in
-    let others = c.before.before.before.before.put-digits.ensures in
-    room (length_digits _ _ _) others c.before.before.before.before.before.before.if1.false start.requires.1.2
+    let others = c.put_digits-last.ensures in
+    room (length_digits _ _ _) others c.if-k-eq0.false c.requires.1.2
 
-put-digits-same-length : (t : ℕ) → put-digits-lts.Need-same-length (
+put-digits-same-length : (t : ℕ) → put-digits-lts.Need-shape_of-text (
   put-digits-below t,
   put-digits.Post,
   digit-reads.Asked,
@@ -138,10 +137,10 @@ put-digits-same-length : (t : ℕ) → put-digits-lts.Need-same-length (
   put-byte-reads.Learnt,
 ) (put-digits-at t) put-digits.Post
 put-digits-same-length t c =
-    length-placed c.before.before.put_byte.ensures
-    ∙ length-placed c.before.before.before.before.before.before.before.put-digits.ensures
+    length-placed c.put_byte.ensures
+    ∙ length-placed c.put_digits-last.ensures
 
-put-digits-returns-2 : (t : ℕ) → put-digits-lts.Need-returns-2 (
+put-digits-returns-2 : (t : ℕ) → put-digits-lts.Need-returns (
   put-digits-below t,
   put-digits.Post,
   digit-reads.Asked,
@@ -150,11 +149,11 @@ put-digits-returns-2 : (t : ℕ) → put-digits-lts.Need-returns-2 (
   put-byte-reads.Learnt,
 ) (put-digits-at t) put-digits.Post
 put-digits-returns-2 t c =
-    let others = c.before.before.before.before.before.before.before.put-digits.ensures in
-    next-digit _ _ _ c.before.before.before.before.before.before.before.before.before.if1.false c.before.before.before.digit.ensures others c.before.before.put_byte.ensures
+    let others = c.put_digits-last.ensures in
+    next-digit _ _ _ c.if-k-eq0.false c.digit.ensures others c.put_byte.ensures
 
-pub +put-digits-spec : {M : Type 1} → statement M
-+put-digits-spec = close μ-put-digits λ t. put-digits-lts.spec (
+pub +put_digits_spec : {M : Type 1} → statement M
++put_digits_spec = close μ-put-digits λ t. put-digits-lts.spec (
   put-digits-below t,
   put-digits.Post,
   digit-reads.Asked,

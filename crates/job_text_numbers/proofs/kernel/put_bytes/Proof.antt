@@ -25,48 +25,48 @@ module _ {at : ℕ} (bytes : List ℕ) {j : ℕ} {w w' : List ℕ} (written : Pl
       let e : j ≡ length bytes = omega arith in
       placed-as (ap (λ k. take k bytes) e ∙ take-length bytes) (subst (λ k. Placed at (take j bytes) w w' (at + k)) e written)
 
-abbrev invariant-loop : tie.invariant-loop
-invariant-loop text₀ at bytes j₀ j-end text j = (j ≤ length bytes) × Placed at (take j bytes) text₀ text (at + j)
+abbrev invariant-loop-j : tie.invariant-loop-j
+invariant-loop-j text₀ at bytes j₀ j-end text j = (j ≤ length bytes) × Placed at (take j bytes) text₀ text (at + j)
 
-abbrev decreases-loop : tie.decreases-loop
-decreases-loop text₀ at bytes j₀ j-end text j = length bytes - j
+abbrev decreases-loop-j : tie.decreases-loop-j
+decreases-loop-j text₀ at bytes j₀ j-end text j = length bytes - j
 
-loop-holds : tie.Need-loop-init invariant-loop decreases-loop
+loop-holds : tie.Need-loop-j-init invariant-loop-j decreases-loop-j
 loop-holds c = (omega arith, rw add-zero (placed-none _ _))
 
-shared-slice-read-text : tie.Need-shared-slice-read-text invariant-loop decreases-loop
+shared-slice-read-text : tie.Need-bounds-bytes-j invariant-loop-j decreases-loop-j
 shared-slice-read-text c = omega arith
 
-add-text : tie.Need-overflow-add-text invariant-loop decreases-loop
+add-text : tie.Need-overflow_add-text invariant-loop-j decreases-loop-j
 add-text c = omega arith
 
-slice-write-text : tie.Need-slice-write-text invariant-loop decreases-loop
-slice-write-text c = omega (arith, length-placed c.before.before.loop.invariant.1)
+slice-write-text : tie.Need-bounds-text-at invariant-loop-j decreases-loop-j
+slice-write-text c = omega (arith, length-placed c.loop-j.invariant.1)
 
-add-j : tie.Need-overflow-add-j invariant-loop decreases-loop
+add-j : tie.Need-overflow_step-j invariant-loop-j decreases-loop-j
 add-j c = omega arith
 
-loop-less : tie.Need-loop-smaller invariant-loop decreases-loop
+loop-less : tie.Need-loop-j-smaller invariant-loop-j decreases-loop-j
 loop-less c = omega arith
 
-loop-again : tie.Need-loop-preserved invariant-loop decreases-loop
-loop-again c = (omega arith, next-byte _ c.before.before.loop.invariant.1 (omega arith))
+loop-again : tie.Need-loop-j-preserved invariant-loop-j decreases-loop-j
+loop-again c = (omega arith, next-byte _ c.loop-j.invariant.1 (omega arith))
 
-add-result : tie.Need-overflow-add-result invariant-loop decreases-loop
+add-result : tie.Need-overflow_add-result invariant-loop-j decreases-loop-j
 add-result c = omega arith
 
-same_length : tie.Need-same-length invariant-loop decreases-loop
-same_length c = length-placed c.before.loop.invariant.1
+same_length : tie.Need-shape_of-text invariant-loop-j decreases-loop-j
+same_length c = length-placed c.loop-j.invariant.1
 
-returns : tie.Need-returns invariant-loop decreases-loop
-returns c = all-bytes _ c.before.loop.invariant.1 c.before.loop.invariant.0 c.loop-test.false
+returns : tie.Need-returns invariant-loop-j decreases-loop-j
+returns c = all-bytes _ c.loop-j.invariant.1 c.loop-j.invariant.0 c.loop-j-test.false
 
-pub put-bytes-spec : {M : Type 1} → statement M
-put-bytes-spec =
+pub put_bytes_spec : {M : Type 1} → statement M
+put_bytes_spec =
     tie.close
     (tie.spec
-    invariant-loop
-    decreases-loop
+    invariant-loop-j
+    decreases-loop-j
     loop-holds
     shared-slice-read-text
     add-text

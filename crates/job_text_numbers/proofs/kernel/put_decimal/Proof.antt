@@ -21,18 +21,17 @@ all-places n k h e p =
 places-requires : tie.Need-places-requires
 places-requires c κs = search rules
 
-put-digits-requires : tie.Need-put-digits-requires
+put-digits-requires : tie.Need-put_digits-requires
 put-digits-requires c κs =
-    let few = twenty _ c.before.before.before.ranges.n.fits in
+    let few = twenty _ c.ranges.n.fits in
     (omega arith, omega arith, omega (arith, few, c.places.ensures))
 
-same_length : tie.Need-same-length
+same_length : tie.Need-shape_of-text
 same_length c = search rules
 
 returns : tie.Need-returns
 returns c =
-    let start = c.before.before.before.before.before.before in
-    all-places _ _ start.ranges.n.fits c.before.before.before.places.ensures c.before.before.put-digits.ensures
+    all-places _ _ c.ranges.n.fits c.places.ensures c.put_digits.ensures
 
-pub put-decimal-spec : {M : Type 1} → statement M
-put-decimal-spec = tie.close (tie.spec places-requires put-digits-requires same_length returns)
+pub put_decimal_spec : {M : Type 1} → statement M
+put_decimal_spec = tie.close (tie.spec places-requires put-digits-requires same_length returns)

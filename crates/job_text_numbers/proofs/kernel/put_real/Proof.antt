@@ -23,16 +23,16 @@ sixteen bits {at = at} h e p = (
 pattern-requires : tie.Need-pattern-requires
 pattern-requires c κs = search rules
 
-put-digits-requires : tie.Need-put-digits-requires
+put-digits-requires : tie.Need-put_digits-requires
 put-digits-requires c κs = search rules
 
-same_length : tie.Need-same-length
+same_length : tie.Need-shape_of-text
 same_length c = search rules
 
 returns : tie.Need-returns
 returns c =
-    let pattern = c.before.before.before.pattern in
-    sixteen pattern.result pattern.type-inv pattern.ensures c.before.before.put-digits.ensures
+    let pattern = c.pattern in
+    sixteen pattern.result pattern.type_inv pattern.ensures c.put_digits.ensures
 
-pub put-real-spec : {M : Type 1} → statement M
-put-real-spec = tie.close (tie.spec pattern-requires put-digits-requires same_length returns)
+pub put_real_spec : {M : Type 1} → statement M
+put_real_spec = tie.close (tie.spec pattern-requires put-digits-requires same_length returns)

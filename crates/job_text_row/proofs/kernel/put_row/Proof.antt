@@ -18,68 +18,68 @@ as_row : {row known : Row} {at : ℕ} {w w' : List ℕ} {next : ℕ} → row ≡
     → PlacedSome at (Spaced (count (row_number row) ∷ row_values row)) w w' next
 as_row e p = rw e p
 
-enum-known-row : tie.Need-enum-known-row
+enum-known-row : tie.Need-enum_known-row
 enum-known-row c = search rules
 
-put-count-requires : tie.Need-put-count-requires
+put-count-requires : tie.Need-put_count-next-requires
 put-count-requires c κs = search rules
 
-put-count-requires-2 : tie.Need-put-count-requires-2
+put-count-requires-2 : tie.Need-put_count-requires
 put-count-requires-2 c κs = search rules
 
-enum-known-row-2 : tie.Need-enum-known-row-2
+enum-known-row-2 : tie.Need-enum_known-row-in-Real-1
 enum-known-row-2 c = search rules
 
-put-count-requires-3 : tie.Need-put-count-requires-3
+put-count-requires-3 : tie.Need-put_count-next-requires-in-Real
 put-count-requires-3 c κs = search rules
 
-put-value-requires : tie.Need-put-value-requires
+put-value-requires : tie.Need-put_value-requires
 put-value-requires c κs = search rules
 
-enum-known-row-3 : tie.Need-enum-known-row-3
+enum-known-row-3 : tie.Need-enum_known-row-in-Reals-1
 enum-known-row-3 c = search rules
 
-put-count-requires-4 : tie.Need-put-count-requires-4
+put-count-requires-4 : tie.Need-put_count-first-requires
 put-count-requires-4 c κs = search rules
 
-put-value-requires-2 : tie.Need-put-value-requires-2
+put-value-requires-2 : tie.Need-put_value-second-requires
 put-value-requires-2 c κs = search rules
 
-put-value-requires-3 : tie.Need-put-value-requires-3
+put-value-requires-3 : tie.Need-put_value-requires-in-Reals
 put-value-requires-3 c κs = search rules
 
-same_length : tie.Need-same-length
+same_length : tie.Need-shape_of-text-in-Count
 same_length c = search rules
 
-returns : tie.Need-returns
+returns : tie.Need-returns-in-Count
 returns c =
-    let number = c.before.before.before.before.before.before.put_count.ensures in
-    let one = c.before.before.put-count2.ensures in
-    (as_row c.before.before.before.before.before.before.before.before.before.row.given.1 (spaced-behind number.0 one.0), omega (arith, number.1, one.1))
+    let number = c.put_count-next.ensures in
+    let one = c.put_count.ensures in
+    (as_row c.in-Count.is (spaced-behind number.0 one.0), omega (arith, number.1, one.1))
 
-same-length-2 : tie.Need-same-length-2
+same-length-2 : tie.Need-shape_of-text-in-Real
 same-length-2 c = search rules
 
-returns-2 : tie.Need-returns-2
+returns-2 : tie.Need-returns-in-Real
 returns-2 c =
-    let number = c.before.before.before.before.before.before.put-count3.ensures in
-    let one = c.before.before.put-value.ensures in
-    (as_row c.before.before.before.before.before.before.before.before.before.row2.given.1 (spaced-behind number.0 one.0), omega (arith, number.1, one.1))
+    let number = c.put_count-next-in-Real.ensures in
+    let one = c.put_value.ensures in
+    (as_row c.in-Real.is (spaced-behind number.0 one.0), omega (arith, number.1, one.1))
 
-same-length-3 : tie.Need-same-length-3
+same-length-3 : tie.Need-shape_of-text-in-Reals
 same-length-3 c = search rules
 
-returns-3 : tie.Need-returns-3
+returns-3 : tie.Need-returns-in-Reals
 returns-3 c =
-    let number = c.before.before.before.before.before.before.before.before.before.before.put-count4.ensures in
-    let one = c.before.before.before.before.before.before.put-value2.ensures in
-    let two = c.before.before.put-value3.ensures in (
-      as_row c.before.before.before.before.before.before.before.before.before.before.before.before.before.row3.given.1 (spaced-behind (spaced-behind number.0 one.0) two.0),
+    let number = c.put_count-first.ensures in
+    let one = c.put_value-second.ensures in
+    let two = c.put_value-in-Reals.ensures in (
+      as_row c.in-Reals.is (spaced-behind (spaced-behind number.0 one.0) two.0),
       omega (arith, number.1, one.1, two.1),
     )
 
-pub put-row-spec : {M : Type 1} → statement M
-put-row-spec =
+pub put_row_spec : {M : Type 1} → statement M
+put_row_spec =
     tie.close
     (tie.spec
     enum-known-row

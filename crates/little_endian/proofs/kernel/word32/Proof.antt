@@ -10,21 +10,21 @@ use Rattle.little_endian.proofs.kernel.word32.Tie as tie
 word16-requires : tie.Need-word16-requires
 word16-requires c κs = search rules
 
-add-word16 : tie.Need-overflow-add-word16
+add-word16 : tie.Need-overflow_add-at
 add-word16 c = search rules
 
 word16-requires-2 : tie.Need-word16-requires-2
 word16-requires-2 c κs = search rules
 
-mul-result : tie.Need-overflow-mul-result
+mul-result : tie.Need-overflow_mul-result
 mul-result c = search rules
 
-add-result : tie.Need-overflow-add-result
+add-result : tie.Need-overflow_add-result
 add-result c = search rules
 
 returns : tie.Need-returns
-returns c = (ap₂ (λ (x y : ℕ). x + 65536 * y) c.before.word16.ensures.0 c.word162.ensures.0 ∙ joined 2 2 _ _, omega arith)
+returns c = (ap₂ (λ (x y : ℕ). x + 65536 * y) c.word16.ensures.0 c.word16-2.ensures.0 ∙ joined 2 2 _ _, omega arith)
 
-pub word32-spec : {M : Type 1} → statement M
-word32-spec =
+pub word32_spec : {M : Type 1} → statement M
+word32_spec =
     tie.close (tie.spec word16-requires add-word16 word16-requires-2 mul-result add-result returns)

@@ -37,24 +37,24 @@ over1 : over 0x3FF0_0000_0000_0000 ≡ reciprocal_factorial binary64 1
 unfolding reciprocal_factorial factorial of_int of_bits
 over1 = refl
 
-returns : tie.Need-returns
-returns c = let e : c.before.args.k ≡ 6 = omega arith in rw e over720
+returns : tie.Need-returns-then-k-eq6
+returns c = let e : c.args.k ≡ 6 = omega arith in rw e over720
 
-returns-2 : tie.Need-returns-2
-returns-2 c = let e : c.before.before.args.k ≡ 5 = omega arith in rw e over120
+returns-2 : tie.Need-returns-then-k-eq5
+returns-2 c = let e : c.args.k ≡ 5 = omega arith in rw e over120
 
-returns-3 : tie.Need-returns-3
-returns-3 c = let e : c.before.before.before.args.k ≡ 4 = omega arith in rw e over24
+returns-3 : tie.Need-returns-then-k-eq4
+returns-3 c = let e : c.args.k ≡ 4 = omega arith in rw e over24
 
-returns-4 : tie.Need-returns-4
-returns-4 c = let e : c.before.before.before.before.args.k ≡ 3 = omega arith in rw e over6
+returns-4 : tie.Need-returns-then-k-eq3
+returns-4 c = let e : c.args.k ≡ 3 = omega arith in rw e over6
 
-returns-5 : tie.Need-returns-5
-returns-5 c = let e : c.before.before.before.before.before.args.k ≡ 2 = omega arith in rw e over2
+returns-5 : tie.Need-returns-then-k-eq2
+returns-5 c = let e : c.args.k ≡ 2 = omega arith in rw e over2
 
-returns-6 : tie.Need-returns-6
-returns-6 c = let e : c.before.before.before.before.before.args.k ≡ 1 = omega arith in rw e over1
+returns-6 : tie.Need-returns
+returns-6 c = let e : c.args.k ≡ 1 = omega arith in rw e over1
 
-pub reciprocal-factorial-spec : {M : Type 1} → statement M
-reciprocal-factorial-spec =
+pub reciprocal_factorial_spec : {M : Type 1} → statement M
+reciprocal_factorial_spec =
     tie.close (tie.spec returns returns-2 returns-3 returns-4 returns-5 returns-6)

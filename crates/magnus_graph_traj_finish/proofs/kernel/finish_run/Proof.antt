@@ -6,23 +6,21 @@ use borrow.Author.Rules.{rules}
 use Rattle.magnus_graph_traj_finish.proofs.kernel.finish_run.Statement.{statement}
 use Rattle.magnus_graph_traj_finish.proofs.kernel.finish_run.Tie as tie
 
-enum_told : tie.Need-enum-told
+enum_told : tie.Need-enum_told-1
 enum_told c = search rules
 
-enum-told-2 : tie.Need-enum-told-2
+enum-told-2 : tie.Need-enum_told-in_default
 enum-told-2 c = search rules
 
 clear-requires : tie.Need-clear-requires
 clear-requires c κs = search rules
 
-same_length : tie.Need-same-length
+same_length : tie.Need-shape_of-work-in_default
 same_length c = search rules
 
-returns : tie.Need-returns
+returns : tie.Need-returns-in_default
 returns c =
-    let cleared = c.before.before in
-    let stopped = cleared.before.before in
-    (refl, sym (left-when-refused _ _ _ _ stopped.enum-told2.given.1), cleared.clear.ensures)
+    (refl, sym (left-when-refused _ _ _ _ c.in_default.is), c.clear.ensures)
 
 store-requires : tie.Need-store-requires
 store-requires c κs = search rules
@@ -30,21 +28,18 @@ store-requires c κs = search rules
 clear-requires-2 : tie.Need-clear-requires-2
 clear-requires-2 c κs = search rules
 
-same-length-2 : tie.Need-same-length-2
+same-length-2 : tie.Need-shape_of-work
 same-length-2 c = search rules
 
-same-length-3 : tie.Need-same-length-3
+same-length-3 : tie.Need-shape_of-dst
 same-length-3 c = search rules
 
-returns-2 : tie.Need-returns-2
+returns-2 : tie.Need-returns
 returns-2 c =
-    let cleared = c.before.before in
-    let stored = cleared.before.before.before.before in
-    let went = stored.before.before.before in
-    (refl, stored.store.ensures ∙ sym (left-when-accepted _ _ _ went.enum_told.given.1), cleared.clear2.ensures)
+    (refl, c.store.ensures ∙ sym (left-when-accepted _ _ _ c.in-Accepted.is), c.clear-2.ensures)
 
-pub finish-run-spec : {M : Type 1} → statement M
-finish-run-spec =
+pub finish_run_spec : {M : Type 1} → statement M
+finish_run_spec =
     tie.close
     (tie.spec
     enum_told

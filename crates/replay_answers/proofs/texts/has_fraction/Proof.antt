@@ -13,19 +13,19 @@ decreases-loop text at zero₀ next₀ counter₀ zero next counter = 13 - count
 loop-holds : tie.Need-loop-init invariant-loop decreases-loop
 loop-holds c = search rules
 
-byte-requires : tie.Need-byte-requires invariant-loop decreases-loop
+byte-requires : tie.Need-byte-digit-requires invariant-loop decreases-loop
 byte-requires c κs = search rules
 
-is-digit-requires : tie.Need-is-digit-requires invariant-loop decreases-loop
+is-digit-requires : tie.Need-is_digit-requires invariant-loop decreases-loop
 is-digit-requires c κs = search rules
 
-returns : tie.Need-returns invariant-loop decreases-loop
+returns : tie.Need-returns-then-not-is_digit invariant-loop decreases-loop
 returns c = search rules
 
-further-requires : tie.Need-further-requires invariant-loop decreases-loop
+further-requires : tie.Need-further-next-requires invariant-loop decreases-loop
 further-requires c κs = search rules
 
-add-counter : tie.Need-overflow-add-counter invariant-loop decreases-loop
+add-counter : tie.Need-overflow_step invariant-loop decreases-loop
 add-counter c = search rules
 
 loop-less : tie.Need-loop-smaller invariant-loop decreases-loop
@@ -34,11 +34,11 @@ loop-less c = search rules
 loop-again : tie.Need-loop-preserved invariant-loop decreases-loop
 loop-again c = search rules
 
-returns-2 : tie.Need-returns-2 invariant-loop decreases-loop
+returns-2 : tie.Need-returns invariant-loop decreases-loop
 returns-2 c = search rules
 
-pub has-fraction-spec : {M : Type 1} → statement M
-has-fraction-spec =
+pub has_fraction_spec : {M : Type 1} → statement M
+has_fraction_spec =
     tie.close
     (tie.spec
     invariant-loop

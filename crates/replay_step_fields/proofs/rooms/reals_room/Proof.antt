@@ -8,5 +8,5 @@ use Rattle.replay_step_fields.proofs.rooms.reals_room.Tie as tie
 returns : tie.Need-returns
 returns c = sym (length-replicate 8192 (of_bits binary64 0))
 
-pub reals-room-spec : {M : Type 1} → statement M
-reals-room-spec = tie.close (tie.spec returns)
+pub reals_room_spec : {M : Type 1} → statement M
+reals_room_spec = tie.close (tie.spec returns)

@@ -8,5 +8,5 @@ use Rattle.replay_step_fields.proofs.rooms.starts_room.Tie as tie
 returns : tie.Need-returns
 returns c = sym (length-replicate {A = ℕ} 8192 0)
 
-pub starts-room-spec : {M : Type 1} → statement M
-starts-room-spec = tie.close (tie.spec returns)
+pub starts_room_spec : {M : Type 1} → statement M
+starts_room_spec = tie.close (tie.spec returns)

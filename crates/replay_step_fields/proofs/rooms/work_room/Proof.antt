@@ -7,5 +7,5 @@ use Rattle.replay_step_fields.proofs.rooms.work_room.Tie as tie
 returns : tie.Need-returns
 returns c = sym (length-replicate 24576 c.args.element)
 
-pub work-room-spec : {M : Type 1} → statement M
-work-room-spec = tie.close (tie.spec returns)
+pub work_room_spec : {M : Type 1} → statement M
+work_room_spec = tie.close (tie.spec returns)

@@ -10,60 +10,58 @@ use Rattle.scratch.proofs.Writing.{Written, written_none, written_next, written_
 use Rattle.scratch_multiples.proofs.kernel.scale_within.Statement.{statement}
 use Rattle.scratch_multiples.proofs.kernel.scale_within.Tie as tie
 
-abbrev invariant-loop : tie.invariant-loop
-invariant-loop work₀ n scale source target i₀ work i =
+abbrev invariant-loop-i : tie.invariant-loop-i
+invariant-loop-i work₀ n scale source target i₀ work i =
     Written target (λ k. mul binary64 scale (get_or (part source n work₀) k nan)) n work₀ i work
 
-abbrev decreases-loop : tie.decreases-loop
-decreases-loop work₀ n scale source target i₀ work i = n - i
+abbrev decreases-loop-i : tie.decreases-loop-i
+decreases-loop-i work₀ n scale source target i₀ work i = n - i
 
-loop-holds : tie.Need-loop-init invariant-loop decreases-loop
+loop-holds : tie.Need-loop-i-init invariant-loop-i decreases-loop-i
 loop-holds c = written_none _ _ _ _
 
-add-work : tie.Need-overflow-add-work invariant-loop decreases-loop
+add-work : tie.Need-overflow_add-work invariant-loop-i decreases-loop-i
 add-work c = omega arith
 
-mul-work : tie.Need-overflow-mul-work invariant-loop decreases-loop
+mul-work : tie.Need-offset_bounds-work-source invariant-loop-i decreases-loop-i
 mul-work c = omega arith
 
-slice-read-work : tie.Need-slice-read-work invariant-loop decreases-loop
+slice-read-work : tie.Need-bounds-work-source invariant-loop-i decreases-loop-i
 slice-read-work c = omega arith
 
-add-work-2 : tie.Need-overflow-add-work-2 invariant-loop decreases-loop
+add-work-2 : tie.Need-overflow_add-work-in-loop-i invariant-loop-i decreases-loop-i
 add-work-2 c = omega arith
 
-mul-work-2 : tie.Need-overflow-mul-work-2 invariant-loop decreases-loop
+mul-work-2 : tie.Need-offset_bounds-work-target invariant-loop-i decreases-loop-i
 mul-work-2 c = omega arith
 
-slice-write-work : tie.Need-slice-write-work invariant-loop decreases-loop
+slice-write-work : tie.Need-bounds-work-target invariant-loop-i decreases-loop-i
 slice-write-work c = omega arith
 
-add-i : tie.Need-overflow-add-i invariant-loop decreases-loop
+add-i : tie.Need-overflow_step-i invariant-loop-i decreases-loop-i
 add-i c = omega arith
 
-loop-less : tie.Need-loop-smaller invariant-loop decreases-loop
+loop-less : tie.Need-loop-i-smaller invariant-loop-i decreases-loop-i
 loop-less c = omega arith
 
-loop-again : tie.Need-loop-preserved invariant-loop decreases-loop
+loop-again : tie.Need-loop-i-preserved invariant-loop-i decreases-loop-i
 loop-again c =
-    let loop = c.before.before in
-    let start = loop.before in
-    let written = loop.loop.invariant in
-    let source-read = read-apart written start.args.source start.requires.2 (omega arith) nan in
+    let written = c.loop-i.invariant in
+    let source-read = read-apart written c.args.source c.requires.2 (omega arith) nan in
     written_next written (omega arith) _ _ (omega arith) (ap (mul binary64 _) source-read)
 
-same_length : tie.Need-same-length invariant-loop decreases-loop
-same_length c = c.before.loop.invariant.length-kept
+same_length : tie.Need-shape_of-work invariant-loop-i decreases-loop-i
+same_length c = c.loop-i.invariant.length-kept
 
-returns : tie.Need-returns invariant-loop decreases-loop
-returns c = written_all c.before.loop.invariant c.loop-test.false refl
+returns : tie.Need-returns invariant-loop-i decreases-loop-i
+returns c = written_all c.loop-i.invariant c.loop-i-test.false refl
 
-pub scale-within-spec : {M : Type 1} → statement M
-scale-within-spec =
+pub scale_within_spec : {M : Type 1} → statement M
+scale_within_spec =
     tie.close
     (tie.spec
-    invariant-loop
-    decreases-loop
+    invariant-loop-i
+    decreases-loop-i
     loop-holds
     add-work
     mul-work

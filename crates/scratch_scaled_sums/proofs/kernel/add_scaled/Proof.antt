@@ -10,70 +10,70 @@ use Rattle.scratch.proofs.Writing.{Written, written_none, written_next, written_
 use Rattle.scratch_scaled_sums.proofs.kernel.add_scaled.Statement.{statement}
 use Rattle.scratch_scaled_sums.proofs.kernel.add_scaled.Tie as tie
 
-abbrev invariant-loop : tie.invariant-loop
-invariant-loop work₀ n scale source target i₀ work i =
+abbrev invariant-loop-i : tie.invariant-loop-i
+invariant-loop-i work₀ n scale source target i₀ work i =
     Written target (plus_scaled_at (ieee binary64) (part target n work₀) scale (part source n work₀)) n work₀ i work
 
-abbrev decreases-loop : tie.decreases-loop
-decreases-loop work₀ n scale source target i₀ work i = n - i
+abbrev decreases-loop-i : tie.decreases-loop-i
+decreases-loop-i work₀ n scale source target i₀ work i = n - i
 
-loop-holds : tie.Need-loop-init invariant-loop decreases-loop
+loop-holds : tie.Need-loop-i-init invariant-loop-i decreases-loop-i
 loop-holds c = written_none _ _ _ _
 
-add-work : tie.Need-overflow-add-work invariant-loop decreases-loop
+add-work : tie.Need-overflow_add-work invariant-loop-i decreases-loop-i
 add-work c = omega arith
 
-mul-work : tie.Need-overflow-mul-work invariant-loop decreases-loop
+mul-work : tie.Need-offset_bounds-work-target invariant-loop-i decreases-loop-i
 mul-work c = omega arith
 
-slice-read-work : tie.Need-slice-read-work invariant-loop decreases-loop
+slice-read-work : tie.Need-bounds-work-target invariant-loop-i decreases-loop-i
 slice-read-work c = omega arith
 
-add-work-2 : tie.Need-overflow-add-work-2 invariant-loop decreases-loop
+add-work-2 : tie.Need-overflow_add-work-in-loop-i invariant-loop-i decreases-loop-i
 add-work-2 c = omega arith
 
-mul-work-2 : tie.Need-overflow-mul-work-2 invariant-loop decreases-loop
+mul-work-2 : tie.Need-offset_bounds-work-source invariant-loop-i decreases-loop-i
 mul-work-2 c = omega arith
 
-slice-read-work-2 : tie.Need-slice-read-work-2 invariant-loop decreases-loop
+slice-read-work-2 : tie.Need-bounds-work-source invariant-loop-i decreases-loop-i
 slice-read-work-2 c = omega arith
 
-add-work-3 : tie.Need-overflow-add-work-3 invariant-loop decreases-loop
+add-work-3 : tie.Need-overflow_add-work-in-loop-i-2 invariant-loop-i decreases-loop-i
 add-work-3 c = omega arith
 
-mul-work-3 : tie.Need-overflow-mul-work-3 invariant-loop decreases-loop
+mul-work-3 : tie.Need-offset_bounds-work-target-in-loop-i invariant-loop-i decreases-loop-i
 mul-work-3 c = omega arith
 
-slice-write-work : tie.Need-slice-write-work invariant-loop decreases-loop
+slice-write-work : tie.Need-bounds-work-target-in-loop-i invariant-loop-i decreases-loop-i
 slice-write-work c = omega arith
 
-add-i : tie.Need-overflow-add-i invariant-loop decreases-loop
+add-i : tie.Need-overflow_step-i invariant-loop-i decreases-loop-i
 add-i c = omega arith
 
-loop-less : tie.Need-loop-smaller invariant-loop decreases-loop
+loop-less : tie.Need-loop-i-smaller invariant-loop-i decreases-loop-i
 loop-less c = omega arith
 
-loop-again : tie.Need-loop-preserved invariant-loop decreases-loop
+loop-again : tie.Need-loop-i-preserved invariant-loop-i decreases-loop-i
 loop-again c =
-    let args = c.before.before.before.before.args in
-    let apart = c.before.before.before.before.requires.2 in
-    let written = c.before.before.before.loop.invariant in
+    let args = c.args in
+    let apart = c.requires.2 in
+    let written = c.loop-i.invariant in
     let target-read = read_here written (omega arith) nan in
     let source-read = read-apart written args.source apart (omega arith) nan in
     written_next written (omega arith) _ _ (omega arith) (λ k. add binary64 (target-read k) (mul binary64 args.scale (source-read k)))
 
-same_length : tie.Need-same-length invariant-loop decreases-loop
-same_length c = c.before.loop.invariant.length-kept
+same_length : tie.Need-shape_of-work invariant-loop-i decreases-loop-i
+same_length c = c.loop-i.invariant.length-kept
 
-returns : tie.Need-returns invariant-loop decreases-loop
-returns c = written_all c.before.loop.invariant c.loop-test.false (plus-scaled-walk (ieee binary64) _ _ _ _)
+returns : tie.Need-returns invariant-loop-i decreases-loop-i
+returns c = written_all c.loop-i.invariant c.loop-i-test.false (plus-scaled-walk (ieee binary64) _ _ _ _)
 
-pub add-scaled-spec : {M : Type 1} → statement M
-add-scaled-spec =
+pub add_scaled_spec : {M : Type 1} → statement M
+add_scaled_spec =
     tie.close
     (tie.spec
-    invariant-loop
-    decreases-loop
+    invariant-loop-i
+    decreases-loop-i
     loop-holds
     add-work
     mul-work

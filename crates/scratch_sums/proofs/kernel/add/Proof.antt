@@ -10,73 +10,71 @@ use Rattle.scratch.proofs.Writing.{Written, written_none, written_next, written_
 use Rattle.scratch_sums.proofs.kernel.add.Statement.{statement}
 use Rattle.scratch_sums.proofs.kernel.add.Tie as tie
 
-abbrev invariant-loop : tie.invariant-loop
-invariant-loop work₀ n x y target i₀ work i =
+abbrev invariant-loop-i : tie.invariant-loop-i
+invariant-loop-i work₀ n x y target i₀ work i =
     Written target
     (λ k. plus binary64 (get_or (part x n work₀) k nan) (get_or (part y n work₀) k nan))
     n work₀ i work
 
-abbrev decreases-loop : tie.decreases-loop
-decreases-loop work₀ n x y target i₀ work i = n - i
+abbrev decreases-loop-i : tie.decreases-loop-i
+decreases-loop-i work₀ n x y target i₀ work i = n - i
 
-loop-holds : tie.Need-loop-init invariant-loop decreases-loop
+loop-holds : tie.Need-loop-i-init invariant-loop-i decreases-loop-i
 loop-holds c = written_none _ _ _ _
 
-add-work : tie.Need-overflow-add-work invariant-loop decreases-loop
+add-work : tie.Need-overflow_add-work invariant-loop-i decreases-loop-i
 add-work c = omega arith
 
-mul-work : tie.Need-overflow-mul-work invariant-loop decreases-loop
+mul-work : tie.Need-offset_bounds-work-x invariant-loop-i decreases-loop-i
 mul-work c = omega arith
 
-slice-read-work : tie.Need-slice-read-work invariant-loop decreases-loop
+slice-read-work : tie.Need-bounds-work-x invariant-loop-i decreases-loop-i
 slice-read-work c = omega arith
 
-add-work-2 : tie.Need-overflow-add-work-2 invariant-loop decreases-loop
+add-work-2 : tie.Need-overflow_add-work-in-loop-i invariant-loop-i decreases-loop-i
 add-work-2 c = omega arith
 
-mul-work-2 : tie.Need-overflow-mul-work-2 invariant-loop decreases-loop
+mul-work-2 : tie.Need-offset_bounds-work-y invariant-loop-i decreases-loop-i
 mul-work-2 c = omega arith
 
-slice-read-work-2 : tie.Need-slice-read-work-2 invariant-loop decreases-loop
+slice-read-work-2 : tie.Need-bounds-work-y invariant-loop-i decreases-loop-i
 slice-read-work-2 c = omega arith
 
-add-work-3 : tie.Need-overflow-add-work-3 invariant-loop decreases-loop
+add-work-3 : tie.Need-overflow_add-work-in-loop-i-2 invariant-loop-i decreases-loop-i
 add-work-3 c = omega arith
 
-mul-work-3 : tie.Need-overflow-mul-work-3 invariant-loop decreases-loop
+mul-work-3 : tie.Need-offset_bounds-work-target invariant-loop-i decreases-loop-i
 mul-work-3 c = omega arith
 
-slice-write-work : tie.Need-slice-write-work invariant-loop decreases-loop
+slice-write-work : tie.Need-bounds-work-target invariant-loop-i decreases-loop-i
 slice-write-work c = omega arith
 
-add-i : tie.Need-overflow-add-i invariant-loop decreases-loop
+add-i : tie.Need-overflow_step-i invariant-loop-i decreases-loop-i
 add-i c = omega arith
 
-loop-less : tie.Need-loop-smaller invariant-loop decreases-loop
+loop-less : tie.Need-loop-i-smaller invariant-loop-i decreases-loop-i
 loop-less c = omega arith
 
-loop-again : tie.Need-loop-preserved invariant-loop decreases-loop
+loop-again : tie.Need-loop-i-preserved invariant-loop-i decreases-loop-i
 loop-again c =
-    let loop = c.before.before.before in
-    let start = loop.before in
-    let apart = start.requires.1 in
-    let written = loop.loop.invariant in
-    let x-read = read-apart written start.args.x apart.0 (omega arith) nan in
-    let y-read = read-apart written start.args.y apart.1 (omega arith) nan in
+    let apart = c.requires.1 in
+    let written = c.loop-i.invariant in
+    let x-read = read-apart written c.args.x apart.0 (omega arith) nan in
+    let y-read = read-apart written c.args.y apart.1 (omega arith) nan in
     written_next written (omega arith) _ _ (omega arith) (ap₂ (plus binary64) x-read y-read)
 
-same_length : tie.Need-same-length invariant-loop decreases-loop
-same_length c = c.before.loop.invariant.length-kept
+same_length : tie.Need-shape_of-work invariant-loop-i decreases-loop-i
+same_length c = c.loop-i.invariant.length-kept
 
-returns : tie.Need-returns invariant-loop decreases-loop
-returns c = written_all c.before.loop.invariant c.loop-test.false refl
+returns : tie.Need-returns invariant-loop-i decreases-loop-i
+returns c = written_all c.loop-i.invariant c.loop-i-test.false refl
 
 pub add_spec : {M : Type 1} → statement M
 add_spec =
     tie.close
     (tie.spec
-    invariant-loop
-    decreases-loop
+    invariant-loop-i
+    decreases-loop-i
     loop-holds
     add-work
     mul-work

@@ -32,49 +32,49 @@ zero-quotient = refl
 
 -- what owning an f64 tells: the format holds it
 held : (c : tie.Start) → T (fits binary64 c.args.x)
-held c = subst T (sym c.well-formed.0.1) tt
+held c = subst T (sym c.well_formed.0.1) tt
 
-returns : tie.Need-returns
-returns c = nan-root binary64 c.before.args.x c.if1.true
+returns : tie.Need-returns-then-x
+returns c = nan-root binary64 c.args.x c.if-x.true
 
-float-to-bits-bits : tie.Need-float-to-bits-bits
-float-to-bits-bits c = equal-to-itself c.before.args.x c.if1.false
+float-to-bits-bits : tie.Need-float_to_bits-bits
+float-to-bits-bits c = equal-to-itself c.args.x c.if-x.false
 
-returns-2 : tie.Need-returns-2
-returns-2 c = let s = c.before.before in root-of-own-bits s.args.x (held s) c.if2.true minus-zero-root
+returns-2 : tie.Need-returns-then-bits
+returns-2 c = let s = c.before.before in root-of-own-bits c.args.x (held s) c.if-bits.true minus-zero-root
 
-returns-3 : tie.Need-returns-3
-returns-3 c = let s = c.before.before.before in zero-quotient ∙ no-root s.args.x (held s) c.if3.true
+returns-3 : tie.Need-returns-then-bits-gt-SIGN
+returns-3 c = let s = c.before.before.before in zero-quotient ∙ no-root c.args.x (held s) c.if-bits-gt-SIGN.true
 
-returns-4 : tie.Need-returns-4
-returns-4 c = let s = c.before.before.before.before in root-of-own-bits s.args.x (held s) c.if4.true zero-root
+returns-4 : tie.Need-returns-then-bits-eq0
+returns-4 c = let s = c.before.before.before.before in root-of-own-bits c.args.x (held s) c.if-bits-eq0.true zero-root
 
-returns-5 : tie.Need-returns-5
+returns-5 : tie.Need-returns-then-bits-ge-INFINITY
 returns-5 c =
     let s = c.before.before.before.before.before in
-    let x = s.args.x in
+    let x = c.args.x in
     let b = to_bits binary64 x in
     root-of-own-bits x (held s) refl
     (sym (own_bits x (held s))
-    ∙ infinite-bits binary64 b c.if5.true (below c.before.before.before.if2.false c.before.before.if3.false))
+    ∙ infinite-bits binary64 b c.if-bits-ge-INFINITY.true (below c.if-bits.false c.if-bits-gt-SIGN.false))
   where
     below : {b : ℕ} → (b ≡ 0x8000_0000_0000_0000 → ⊥) → b ≤ 0x8000_0000_0000_0000 → b < 0x8000_0000_0000_0000
     below n l = omega arith
 
-bits-or-zero-requires : tie.Need-bits-or-zero-requires
+bits-or-zero-requires : tie.Need-bits_or_zero-digits-requires
 bits-or-zero-requires c κs = search rules
 
-add-root-of-bits : tie.Need-overflow-add-root-of-bits
+add-root-of-bits : tie.Need-overflow_add-digits
 add-root-of-bits c = search rules
 
-root-of-bits-requires : tie.Need-root-of-bits-requires
+root-of-bits-requires : tie.Need-root_of_bits-requires
 root-of-bits-requires c κs = search rules
 
-returns-6 : tie.Need-returns-6
-returns-6 c = let s = c.before.before.before.before.before.before.before in root-of-own-bits s.args.x (held s) refl c.root-of-bits.ensures
+returns-6 : tie.Need-returns
+returns-6 c = let s = c.before.before.before.before.before.before.before in root-of-own-bits c.args.x (held s) refl c.root_of_bits.ensures
 
-pub root-near-spec : {M : Type 1} → statement M
-root-near-spec =
+pub root_near_spec : {M : Type 1} → statement M
+root_near_spec =
     tie.close
     (tie.spec
     returns

@@ -27,14 +27,14 @@ own-pattern x held number =
       value = λ h. same;
     }
 
-returns : tie.Need-returns
-returns c = no-pattern c.before.args.x
+returns : tie.Need-returns-then-x
+returns c = no-pattern c.args.x
 
-float-to-bits-result : tie.Need-float-to-bits-result
-float-to-bits-result c = equal-to-itself c.before.args.x c.if1.false
+float-to-bits-result : tie.Need-float_to_bits-result
+float-to-bits-result c = equal-to-itself c.args.x c.if-x.false
 
-returns-2 : tie.Need-returns-2
-returns-2 c = own-pattern c.before.args.x (subst T (sym c.before.well-formed.0.1) tt) (equal-to-itself c.before.args.x c.if1.false)
+returns-2 : tie.Need-returns
+returns-2 c = own-pattern c.args.x (subst T (sym c.well_formed.0.1) tt) (equal-to-itself c.args.x c.if-x.false)
 
-pub bits-or-zero-spec : {M : Type 1} → statement M
-bits-or-zero-spec = tie.close (tie.spec returns float-to-bits-result returns-2)
+pub bits_or_zero_spec : {M : Type 1} → statement M
+bits_or_zero_spec = tie.close (tie.spec returns float-to-bits-result returns-2)

@@ -6,5 +6,5 @@ use Rattle.square_root_bits.proofs.kernel.floor_half.Tie as tie
 returns : tie.Need-returns
 returns c = shifted_half c.ranges.exponent
 
-pub floor-half-spec : {M : Type 1} → statement M
-floor-half-spec = tie.close (tie.spec returns)
+pub floor_half_spec : {M : Type 1} → statement M
+floor_half_spec = tie.close (tie.spec returns)

@@ -20,42 +20,42 @@ digits-small b = omega arith
 field-small : (b : ℕ) → b < 0x7FF0_0000_0000_0000 → b / 4503599627370496 ≤ 2046
 field-small b h = omega arith
 
-shift_of : (c : tie.Then1)
-    → (11 ≤ count_leading_zeros 64 (c.before.args.bits % 4503599627370496))
-    × Shifted (c.before.args.bits % 4503599627370496) (count_leading_zeros 64 (c.before.args.bits % 4503599627370496) - 11)
-shift_of c = let b = c.before.args.bits in shifted (b % 4503599627370496) (digits-positive b c.before.requires.0 c.if1.true) (digits-small b)
+shift_of : (c : tie.Then-field-eq0)
+    → (11 ≤ count_leading_zeros 64 (c.args.bits % 4503599627370496))
+    × Shifted (c.args.bits % 4503599627370496) (count_leading_zeros 64 (c.args.bits % 4503599627370496) - 11)
+shift_of c = let b = c.args.bits in shifted (b % 4503599627370496) (digits-positive b c.requires.0 c.if-field-eq0.true) (digits-small b)
 
-sub-shift : tie.Need-overflow-sub-shift
+sub-shift : tie.Need-overflow_sub-shift
 sub-shift c = (shift_of c).0
 
-cast-t7 : tie.Need-overflow-cast-t7
+cast-t7 : tie.Need-overflow_cast-result
 cast-t7 c = record { fits = omega (arith, (shift_of c).1.most) }
 
-shl-t8 : tie.Need-overflow-shl-t8
+shl-t8 : tie.Need-overflow_shl-result
 shl-t8 c = omega (arith, (shift_of c).1.most)
 
-cast-t9 : tie.Need-overflow-cast-t9
+cast-t9 : tie.Need-overflow_cast-result-then-field-eq0
 cast-t9 c = record { sfits = omega (arith, (shift_of c).1.most) }
 
-sub-t10 : tie.Need-overflow-sub-t10
+sub-t10 : tie.Need-overflow_sub-result
 sub-t10 c = shifted-exponent-fits _ (shift_of c).1.positive (shift_of c).1.most
 
-returns : tie.Need-returns
-returns c = subnormal-is _ _ _ c.if1.true (shift_of c).1 (read_back (sub-t10 c))
+returns : tie.Need-returns-then-field-eq0
+returns c = subnormal-is _ _ _ c.if-field-eq0.true (shift_of c).1 (read_back (sub-t10 c))
 
-add-t11 : tie.Need-overflow-add-t11
+add-t11 : tie.Need-overflow_add-result
 add-t11 c = search rules
 
-cast-t12 : tie.Need-overflow-cast-t12
+cast-t12 : tie.Need-overflow_cast-result-2
 cast-t12 c = search rules
 
-sub-t13 : tie.Need-overflow-sub-t13
-sub-t13 c = let b = c.before.args.bits in normal-exponent-fits (b / 4503599627370496) (field-small b c.before.requires.1)
+sub-t13 : tie.Need-overflow_sub-result-2
+sub-t13 c = let b = c.args.bits in normal-exponent-fits (b / 4503599627370496) (field-small b c.requires.1)
 
-returns-2 : tie.Need-returns-2
-returns-2 c = normal-is _ _ c.before.requires.1 c.if1.false (read_back (sub-t13 c))
+returns-2 : tie.Need-returns
+returns-2 c = normal-is _ _ c.requires.1 c.if-field-eq0.false (read_back (sub-t13 c))
 
-pub normalized-spec : {M : Type 1} → statement M
-normalized-spec =
+pub normalized_spec : {M : Type 1} → statement M
+normalized_spec =
     tie.close
     (tie.spec sub-shift cast-t7 shl-t8 cast-t9 sub-t10 returns add-t11 cast-t12 sub-t13 returns-2)

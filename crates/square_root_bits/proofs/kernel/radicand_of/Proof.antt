@@ -49,24 +49,24 @@ module _ {bits s : ℕ} {e : ℤ} (v : Normalized bits s e) where
         subst (λ (z : ℤ). Scaled bits (2 * s) z) (sym (half-read ∙ half_is))
         (odd_is bits s e v (λ same. t (rest-bits-equal e h (read e -ℤ read h) half_is rest-is same)))
 
-normalized-requires : tie.Need-normalized-requires
+normalized-requires : tie.Need-normalized-x-requires
 normalized-requires c κs = search rules
 
-floor-half-requires : tie.Need-floor-half-requires
-floor-half-requires c κs = low-enough c.before.normalized.ensures
+floor-half-requires : tie.Need-floor_half-half-requires
+floor-half-requires c κs = low-enough c.normalized-x.ensures
 
-sub-rest : tie.Need-overflow-sub-rest
-sub-rest c = rest-in-range c.before.before.normalized.ensures c.floor-half.ensures
+sub-rest : tie.Need-overflow_sub-rest
+sub-rest c = rest-in-range c.normalized-x.ensures c.floor_half-half.ensures
 
-returns : tie.Need-returns
-returns c = with-even c.before.before.before.normalized.ensures c.before.floor-half.ensures c.if1.true
+returns : tie.Need-returns-then-rest-half
+returns c = with-even c.normalized-x.ensures c.floor_half-half.ensures c.if-rest-half.true
 
-mul-t8 : tie.Need-overflow-mul-t8
+mul-t8 : tie.Need-overflow_mul-result
 mul-t8 c = search rules
 
-returns-2 : tie.Need-returns-2
-returns-2 c = with-odd c.before.before.before.normalized.ensures c.before.floor-half.ensures c.if1.false
+returns-2 : tie.Need-returns
+returns-2 c = with-odd c.normalized-x.ensures c.floor_half-half.ensures c.if-rest-half.false
 
-pub radicand-of-spec : {M : Type 1} → statement M
-radicand-of-spec =
+pub radicand_of_spec : {M : Type 1} → statement M
+radicand_of_spec =
     tie.close (tie.spec normalized-requires floor-half-requires sub-rest returns mul-t8 returns-2)

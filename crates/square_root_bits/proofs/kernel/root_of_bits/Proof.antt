@@ -58,34 +58,34 @@ module _ {bits d : ℕ} {h : ℤ} (v : Scaled bits d h) where
         → of_bits binary64 (nat_abs (read (read h +ℤ pos 1022)) * 4503599627370496 + r) ≡ square_root binary64 (of_bits binary64 bits)
     pattern-root p l = ap (λ (n : ℕ). of_bits binary64 (n * 4503599627370496 + r)) place_is ∙ root_is v q p l
 
-radicand-of-requires : tie.Need-radicand-of-requires
+radicand-of-requires : tie.Need-radicand_of-x-requires
 radicand-of-requires c κs = search rules
 
-settled-requires : tie.Need-settled-requires
-settled-requires c κs = let v = c.before.radicand-of.ensures in ((v.lower, omega (arith, v.upper)), c.before.before.requires.1)
+settled-requires : tie.Need-settled-digits-requires
+settled-requires c κs = let v = c.radicand_of-x.ensures in ((v.lower, omega (arith, v.upper)), c.requires.1)
 
-add-place : tie.Need-overflow-add-place
-add-place c = sum_fits c.before.before.radicand-of.ensures
+add-place : tie.Need-overflow_add-place
+add-place c = sum_fits c.radicand_of-x.ensures
 
-cast-place : tie.Need-overflow-cast-place
-cast-place c = let v = c.before.before.radicand-of.ensures in (not_negative v, place-fits v)
+cast-place : tie.Need-overflow_cast-place
+cast-place c = let v = c.radicand_of-x.ensures in (not_negative v, place-fits v)
 
-mul-result : tie.Need-overflow-mul-result
-mul-result c = product-fits c.before.before.radicand-of.ensures
+mul-result : tie.Need-overflow_mul-result
+mul-result c = product-fits c.radicand_of-x.ensures
 
-add-result : tie.Need-overflow-add-result
-add-result c = pattern-fits c.before.before.radicand-of.ensures c.settled.ensures
+add-result : tie.Need-overflow_add-result
+add-result c = pattern-fits c.radicand_of-x.ensures c.settled-digits.ensures
 
-float-from-bits-result : tie.Need-float-from-bits-result
-float-from-bits-result c = pattern-no-nan c.before.before.radicand-of.ensures c.settled.ensures
+float-from-bits-result : tie.Need-float_from_bits-result
+float-from-bits-result c = pattern-no-nan c.radicand_of-x.ensures c.settled-digits.ensures
 
 returns : tie.Need-returns
 returns c =
-    let p = c.before.before.before.requires.0 in
-    pattern-root c.before.before.radicand-of.ensures c.settled.ensures p.0 p.1
+    let p = c.requires.0 in
+    pattern-root c.radicand_of-x.ensures c.settled-digits.ensures p.0 p.1
 
-pub root-of-bits-spec : {M : Type 1} → statement M
-root-of-bits-spec =
+pub root_of_bits_spec : {M : Type 1} → statement M
+root_of_bits_spec =
     tie.close
     (tie.spec
     radicand-of-requires

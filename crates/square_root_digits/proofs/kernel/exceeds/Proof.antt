@@ -10,39 +10,39 @@ use Rattle.square_root_digits.proofs.kernel.exceeds.Reads as reads
 use Rattle.square_root_digits.proofs.kernel.exceeds.Lts as lts
 
 -- src/kernel.rt:31:18
-mul-middle : tie.Need-overflow-mul-middle
+mul-middle : tie.Need-overflow_mul-middle
 mul-middle c = search rules
 
 -- src/kernel.rt:31:18
-mul-middle-2 : tie.Need-overflow-mul-middle-2
+mul-middle-2 : tie.Need-overflow_mul-middle-2
 mul-middle-2 c = let r = c.args.r in record { fits = omega (arith, cross_product {a = r / 67108864} {b = r % 67108864} (high_part c.requires) (low_part r)) }
 
 -- src/kernel.rt:31:31
-mul-middle-3 : tie.Need-overflow-mul-middle-3
+mul-middle-3 : tie.Need-overflow_mul-middle-3
 mul-middle-3 c = let r = c.args.r in record { fits = omega (arith, low-square (low_part r)) }
 
 -- src/kernel.rt:31:31
-add-middle : tie.Need-overflow-add-middle
+add-middle : tie.Need-overflow_add-middle
 add-middle c = let r = c.args.r in record { fits = omega (arith, low-square (low_part r)) }
 
 -- src/kernel.rt:31:18
-add-middle-2 : tie.Need-overflow-add-middle-2
+add-middle-2 : tie.Need-overflow_add-middle-2
 add-middle-2 c = let r = c.args.r in record { fits = omega (arith, low-square (low_part r), cross_product (high_part c.requires) (low_part r)) }
 
 -- src/kernel.rt:32:5
-mul-result : tie.Need-overflow-mul-result
+mul-result : tie.Need-overflow_mul-result
 mul-result c = let r = c.args.r in record { fits = omega (arith, high-square (high_part c.requires)) }
 
 -- src/kernel.rt:32:5
-add-result : tie.Need-overflow-add-result
+add-result : tie.Need-overflow_add-result
 add-result c = let r = c.args.r in record { fits = omega (arith, low-square (low_part r), cross_product (high_part c.requires) (low_part r), high-square (high_part c.requires)) }
 
 -- src/kernel.rt:25:1
 returns : tie.Need-returns
 returns c = compared c.args.r c.args.radicand
 
-pub exceeds-spec : {M : Type 1} → statement M
-exceeds-spec =
+pub exceeds_spec : {M : Type 1} → statement M
+exceeds_spec =
     tie.close
     (tie.spec
     mul-middle

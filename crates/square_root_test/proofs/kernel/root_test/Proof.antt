@@ -23,56 +23,56 @@ radicand-fits bits m = record { fits = omega (arith, radicand-small bits m) }
 differ-little : (root o b : ℕ) → root < 2 ^ 64 → o < 2 → b < 2 ^ 13 → bit_xor (root / 4503599627370496 + o) b ≤ 2 ^ 63
 differ-little root o b h k l = omega (arith, xor_lt 13 (root / 4503599627370496 + o) b (omega arith) l)
 
-bits-or-zero-requires : tie.Need-bits-or-zero-requires
+bits-or-zero-requires : tie.Need-bits_or_zero-bits-requires
 bits-or-zero-requires c κs = search rules
 
-add-significand : tie.Need-overflow-add-significand
+add-significand : tie.Need-overflow_add-significand
 add-significand c = search rules
 
-add-odd : tie.Need-overflow-add-odd
+add-odd : tie.Need-overflow_add-odd
 add-odd c = search rules
 
-sub-radicand : tie.Need-overflow-sub-radicand
+sub-radicand : tie.Need-overflow_sub-radicand
 sub-radicand c = search rules
 
-add-radicand : tie.Need-overflow-add-radicand
-add-radicand c = radicand-fits c.bits-or-zero.result _
+add-radicand : tie.Need-overflow_add-radicand
+add-radicand c = radicand-fits c.bits_or_zero-bits.result _
 
-bits-or-zero-requires-2 : tie.Need-bits-or-zero-requires-2
+bits-or-zero-requires-2 : tie.Need-bits_or_zero-root-requires
 bits-or-zero-requires-2 c κs = search rules
 
-add_r : tie.Need-overflow-add-r
+add_r : tie.Need-overflow_add-r
 add_r c = search rules
 
-add_half : tie.Need-overflow-add-half
+add_half : tie.Need-overflow_add-half
 add_half c = search rules
 
-add-half-2 : tie.Need-overflow-add-half-2
+add-half-2 : tie.Need-overflow_add-half-2
 add-half-2 c = search rules
 
-sub-half : tie.Need-overflow-sub-half
-sub-half c = differ-little c.bits-or-zero2.result _ _ (search rules) (omega arith) (omega arith)
+sub-half : tie.Need-overflow_sub-half
+sub-half c = differ-little c.bits_or_zero-root.result _ _ (search rules) (omega arith) (omega arith)
 
-digits-test-requires : tie.Need-digits-test-requires
-digits-test-requires c κs = (radicand-small c.before.bits-or-zero.result _, (omega arith, omega arith))
+digits-test-requires : tie.Need-digits_test-requires
+digits-test-requires c κs = (radicand-small c.bits_or_zero-bits.result _, (omega arith, omega arith))
 
-add-result : tie.Need-overflow-add-result
+add-result : tie.Need-overflow_add-result
 add-result c = search rules
 
-sub-result : tie.Need-overflow-sub-result
+sub-result : tie.Need-overflow_sub-result
 sub-result c = search rules
 
-add-result-2 : tie.Need-overflow-add-result-2
+add-result-2 : tie.Need-overflow_add-result-2
 add-result-2 c = search rules
 
-sub-result-2 : tie.Need-overflow-sub-result-2
+sub-result-2 : tie.Need-overflow_sub-result-2
 sub-result-2 c = search rules
 
 returns : tie.Need-returns
-returns c = passed c.before.before.bits-or-zero.ensures c.before.bits-or-zero2.ensures c.digits-test.ensures
+returns c = passed c.bits_or_zero-bits.ensures c.bits_or_zero-root.ensures c.digits_test.ensures
 
-pub root-test-spec : {M : Type 1} → statement M
-root-test-spec =
+pub root_test_spec : {M : Type 1} → statement M
+root_test_spec =
     tie.close
     (tie.spec
     bits-or-zero-requires

@@ -7,51 +7,49 @@ use Rattle.square_roots.proofs.Blocks.{Imaged, imaged-none, imaged-next, imaged-
 use Rattle.square_roots.proofs.kernel.roots_in.Statement.{statement}
 use Rattle.square_roots.proofs.kernel.roots_in.Tie as tie
 
-abbrev invariant-loop : tie.invariant-loop
-invariant-loop work₀ count source target done₀ work done = Imaged (square_root binary64) work₀ work₀ count source target done work
+abbrev invariant-loop-done : tie.invariant-loop-done
+invariant-loop-done work₀ count source target done₀ work done = Imaged (square_root binary64) work₀ work₀ count source target done work
 
-abbrev decreases-loop : tie.decreases-loop
-decreases-loop work₀ count source target done₀ work done = count - done
+abbrev decreases-loop-done : tie.decreases-loop-done
+decreases-loop-done work₀ count source target done₀ work done = count - done
 
-loop-holds : tie.Need-loop-init invariant-loop decreases-loop
+loop-holds : tie.Need-loop-done-init invariant-loop-done decreases-loop-done
 loop-holds c = imaged-none _ _ _ _ _ _
 
-block-end-requires : tie.Need-block-end-requires invariant-loop decreases-loop
+block-end-requires : tie.Need-block_end-end-requires invariant-loop-done decreases-loop-done
 block-end-requires c κs = omega arith
 
-sub-block-in : tie.Need-overflow-sub-block-in invariant-loop decreases-loop
+sub-block-in : tie.Need-overflow_sub-end invariant-loop-done decreases-loop-done
 sub-block-in c = omega arith
 
-add-block-in : tie.Need-overflow-add-block-in invariant-loop decreases-loop
+add-block-in : tie.Need-overflow_add-source invariant-loop-done decreases-loop-done
 add-block-in c = omega arith
 
-add-block-in-2 : tie.Need-overflow-add-block-in-2 invariant-loop decreases-loop
+add-block-in-2 : tie.Need-overflow_add-target invariant-loop-done decreases-loop-done
 add-block-in-2 c = omega arith
 
-block-in-requires : tie.Need-block-in-requires invariant-loop decreases-loop
+block-in-requires : tie.Need-block_in-requires invariant-loop-done decreases-loop-done
 block-in-requires c κs = omega arith
 
-loop-less : tie.Need-loop-smaller invariant-loop decreases-loop
+loop-less : tie.Need-loop-done-smaller invariant-loop-done decreases-loop-done
 loop-less c = omega arith
 
-loop-again : tie.Need-loop-preserved invariant-loop decreases-loop
+loop-again : tie.Need-loop-done-preserved invariant-loop-done decreases-loop-done
 loop-again c =
-    let start = c.before.before.before.before.before.before.before.before in
-    let head = c.before.before.before.before.before.before in
-    imaged-next _ head.loop.invariant _ (omega arith) (omega arith) start.requires.0 start.requires.2 c.before.before.block_in.ensures
+    imaged-next _ c.loop-done.invariant _ (omega arith) (omega arith) c.requires.0 c.requires.2 c.block_in.ensures
 
-same_length : tie.Need-same-length invariant-loop decreases-loop
-same_length c = c.before.loop.invariant.length-kept
+same_length : tie.Need-shape_of-work invariant-loop-done decreases-loop-done
+same_length c = c.loop-done.invariant.length-kept
 
-returns : tie.Need-returns invariant-loop decreases-loop
-returns c = imaged-all _ c.before.loop.invariant (omega arith)
+returns : tie.Need-returns invariant-loop-done decreases-loop-done
+returns c = imaged-all _ c.loop-done.invariant (omega arith)
 
-pub roots-in-spec : {M : Type 1} → statement M
-roots-in-spec =
+pub roots_in_spec : {M : Type 1} → statement M
+roots_in_spec =
     tie.close
     (tie.spec
-    invariant-loop
-    decreases-loop
+    invariant-loop-done
+    decreases-loop-done
     loop-holds
     block-end-requires
     sub-block-in

@@ -20,20 +20,20 @@ without-last b h =
     less : (b : ℕ) → b % 9223372036854775808 ≤ 9218868437227405312 → (b - b % 134217728) % 9223372036854775808 ≤ 9218868437227405312
     less b h = omega arith
 
-inverse-root-requires : tie.Need-inverse-root-requires
+inverse-root-requires : tie.Need-inverse_root-y-requires
 inverse-root-requires c κs = search rules
 
-bits-or-zero-requires : tie.Need-bits-or-zero-requires
+bits-or-zero-requires : tie.Need-bits_or_zero-digits-requires
 bits-or-zero-requires c κs = search rules
 
-sub-leading : tie.Need-overflow-sub-leading
+sub-leading : tie.Need-overflow_sub-leading
 sub-leading c = search rules
 
-float-from-bits-leading : tie.Need-float-from-bits-leading
-float-from-bits-leading c = without-last c.bits-or-zero.result c.bits-or-zero.ensures.no_nan
+float-from-bits-leading : tie.Need-float_from_bits-leading
+float-from-bits-leading c = without-last c.bits_or_zero-digits.result c.bits_or_zero-digits.ensures.no_nan
 
 returns : tie.Need-returns
 returns c = search rules
 
-pub estimate-spec : {M : Type 1} → statement M
-estimate-spec = tie.close (tie.spec inverse-root-requires bits-or-zero-requires sub-leading float-from-bits-leading returns)
+pub estimate_spec : {M : Type 1} → statement M
+estimate_spec = tie.close (tie.spec inverse-root-requires bits-or-zero-requires sub-leading float-from-bits-leading returns)

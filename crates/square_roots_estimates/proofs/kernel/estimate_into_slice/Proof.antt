@@ -6,51 +6,51 @@ use borrow.Author.Rules.{rules}
 use Rattle.square_roots_estimates.proofs.kernel.estimate_into_slice.Statement.{statement}
 use Rattle.square_roots_estimates.proofs.kernel.estimate_into_slice.Tie as tie
 
-abbrev invariant-loop : tie.invariant-loop
-invariant-loop src dst₀ i₀ i-end dst i = (i-end ≡ length src) × (length dst ≡ length src)
+abbrev invariant-loop-i : tie.invariant-loop-i
+invariant-loop-i src dst₀ i₀ i-end dst i = (i-end ≡ length src) × (length dst ≡ length src)
 
-abbrev decreases-loop : tie.decreases-loop
-decreases-loop src dst₀ i₀ i-end dst i = i-end - i
+abbrev decreases-loop-i : tie.decreases-loop-i
+decreases-loop-i src dst₀ i₀ i-end dst i = i-end - i
 
-loop-holds : tie.Need-loop-init invariant-loop decreases-loop
+loop-holds : tie.Need-loop-i-init invariant-loop-i decreases-loop-i
 loop-holds c = search rules
 
-mul-estimate : tie.Need-overflow-mul-estimate invariant-loop decreases-loop
+mul-estimate : tie.Need-offset_bounds-src-i invariant-loop-i decreases-loop-i
 mul-estimate c = search rules
 
-shared-slice-read-estimate : tie.Need-shared-slice-read-estimate invariant-loop decreases-loop
+shared-slice-read-estimate : tie.Need-bounds-src-i invariant-loop-i decreases-loop-i
 shared-slice-read-estimate c = search rules
 
-estimate-requires : tie.Need-estimate-requires invariant-loop decreases-loop
+estimate-requires : tie.Need-estimate-requires invariant-loop-i decreases-loop-i
 estimate-requires c κs = search rules
 
-mul-dst : tie.Need-overflow-mul-dst invariant-loop decreases-loop
+mul-dst : tie.Need-offset_bounds-dst-i invariant-loop-i decreases-loop-i
 mul-dst c = search rules
 
-slice-write-dst : tie.Need-slice-write-dst invariant-loop decreases-loop
+slice-write-dst : tie.Need-bounds-dst-i invariant-loop-i decreases-loop-i
 slice-write-dst c = search rules
 
-add-i : tie.Need-overflow-add-i invariant-loop decreases-loop
+add-i : tie.Need-overflow_step-i invariant-loop-i decreases-loop-i
 add-i c = search rules
 
-loop-less : tie.Need-loop-smaller invariant-loop decreases-loop
+loop-less : tie.Need-loop-i-smaller invariant-loop-i decreases-loop-i
 loop-less c = search rules
 
-loop-again : tie.Need-loop-preserved invariant-loop decreases-loop
+loop-again : tie.Need-loop-i-preserved invariant-loop-i decreases-loop-i
 loop-again c = search rules
 
-same_length : tie.Need-same-length invariant-loop decreases-loop
+same_length : tie.Need-shape_of-dst invariant-loop-i decreases-loop-i
 same_length c = search rules
 
-returns : tie.Need-returns invariant-loop decreases-loop
+returns : tie.Need-returns invariant-loop-i decreases-loop-i
 returns c = search rules
 
-pub estimate-into-slice-spec : {M : Type 1} → statement M
-estimate-into-slice-spec =
+pub estimate_into_slice_spec : {M : Type 1} → statement M
+estimate_into_slice_spec =
     tie.close
     (tie.spec
-    invariant-loop
-    decreases-loop
+    invariant-loop-i
+    decreases-loop-i
     loop-holds
     mul-estimate
     shared-slice-read-estimate

@@ -6,57 +6,57 @@ use Rattle.square_roots_estimates.proofs.Roots.{SomeWritten, some-none, some_nex
 use Rattle.square_roots_estimates.proofs.kernel.estimate_within.Statement.{statement}
 use Rattle.square_roots_estimates.proofs.kernel.estimate_within.Tie as tie
 
-abbrev invariant-loop : tie.invariant-loop
-invariant-loop work₀ count source target i₀ work i = SomeWritten target count work₀ i work
+abbrev invariant-loop-i : tie.invariant-loop-i
+invariant-loop-i work₀ count source target i₀ work i = SomeWritten target count work₀ i work
 
-abbrev decreases-loop : tie.decreases-loop
-decreases-loop work₀ count source target i₀ work i = count - i
+abbrev decreases-loop-i : tie.decreases-loop-i
+decreases-loop-i work₀ count source target i₀ work i = count - i
 
-loop-holds : tie.Need-loop-init invariant-loop decreases-loop
+loop-holds : tie.Need-loop-i-init invariant-loop-i decreases-loop-i
 loop-holds c = some-none _ _ _
 
-add-estimate : tie.Need-overflow-add-estimate invariant-loop decreases-loop
+add-estimate : tie.Need-overflow_add-source invariant-loop-i decreases-loop-i
 add-estimate c = omega arith
 
-mul-estimate : tie.Need-overflow-mul-estimate invariant-loop decreases-loop
+mul-estimate : tie.Need-offset_bounds-work-source invariant-loop-i decreases-loop-i
 mul-estimate c = omega arith
 
-slice-read-estimate : tie.Need-slice-read-estimate invariant-loop decreases-loop
+slice-read-estimate : tie.Need-bounds-work-source invariant-loop-i decreases-loop-i
 slice-read-estimate c = omega arith
 
-estimate-requires : tie.Need-estimate-requires invariant-loop decreases-loop
+estimate-requires : tie.Need-estimate-requires invariant-loop-i decreases-loop-i
 estimate-requires c κs = search rules
 
-add-work : tie.Need-overflow-add-work invariant-loop decreases-loop
+add-work : tie.Need-overflow_add-work invariant-loop-i decreases-loop-i
 add-work c = omega arith
 
-mul-work : tie.Need-overflow-mul-work invariant-loop decreases-loop
+mul-work : tie.Need-offset_bounds-work-target invariant-loop-i decreases-loop-i
 mul-work c = omega arith
 
-slice-write-work : tie.Need-slice-write-work invariant-loop decreases-loop
+slice-write-work : tie.Need-bounds-work-target invariant-loop-i decreases-loop-i
 slice-write-work c = omega arith
 
-add-i : tie.Need-overflow-add-i invariant-loop decreases-loop
+add-i : tie.Need-overflow_step-i invariant-loop-i decreases-loop-i
 add-i c = omega arith
 
-loop-less : tie.Need-loop-smaller invariant-loop decreases-loop
+loop-less : tie.Need-loop-i-smaller invariant-loop-i decreases-loop-i
 loop-less c = omega arith
 
-loop-again : tie.Need-loop-preserved invariant-loop decreases-loop
-loop-again c = some_next c.before.before.before.loop.invariant (omega arith) _ _ (omega arith)
+loop-again : tie.Need-loop-i-preserved invariant-loop-i decreases-loop-i
+loop-again c = some_next c.loop-i.invariant (omega arith) _ _ (omega arith)
 
-same_length : tie.Need-same-length invariant-loop decreases-loop
-same_length c = c.before.loop.invariant.1.length-kept
+same_length : tie.Need-shape_of-work invariant-loop-i decreases-loop-i
+same_length c = c.loop-i.invariant.1.length-kept
 
-returns : tie.Need-returns invariant-loop decreases-loop
-returns c = some-all c.before.loop.invariant c.loop-test.false
+returns : tie.Need-returns invariant-loop-i decreases-loop-i
+returns c = some-all c.loop-i.invariant c.loop-i-test.false
 
-pub estimate-within-spec : {M : Type 1} → statement M
-estimate-within-spec =
+pub estimate_within_spec : {M : Type 1} → statement M
+estimate_within_spec =
     tie.close
     (tie.spec
-    invariant-loop
-    decreases-loop
+    invariant-loop-i
+    decreases-loop-i
     loop-holds
     add-estimate
     mul-estimate

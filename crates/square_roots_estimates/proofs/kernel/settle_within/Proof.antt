@@ -14,74 +14,72 @@ use Rattle.square_roots_estimates.proofs.Roots.{roots-of}
 use Rattle.square_roots_estimates.proofs.kernel.settle_within.Statement.{statement}
 use Rattle.square_roots_estimates.proofs.kernel.settle_within.Tie as tie
 
-abbrev invariant-loop : tie.invariant-loop
-invariant-loop work₀ count source target i₀ work i = Written target (λ k. square_root binary64 (get_or (part source count work₀) k nan)) count work₀ i work
+abbrev invariant-loop-i : tie.invariant-loop-i
+invariant-loop-i work₀ count source target i₀ work i = Written target (λ k. square_root binary64 (get_or (part source count work₀) k nan)) count work₀ i work
 
-abbrev decreases-loop : tie.decreases-loop
-decreases-loop work₀ count source target i₀ work i = count - i
+abbrev decreases-loop-i : tie.decreases-loop-i
+decreases-loop-i work₀ count source target i₀ work i = count - i
 
-loop-holds : tie.Need-loop-init invariant-loop decreases-loop
+loop-holds : tie.Need-loop-i-init invariant-loop-i decreases-loop-i
 loop-holds c = written_none _ _ _ _
 
-add-root-near : tie.Need-overflow-add-root-near invariant-loop decreases-loop
+add-root-near : tie.Need-overflow_add-source invariant-loop-i decreases-loop-i
 add-root-near c = omega arith
 
-mul-root-near : tie.Need-overflow-mul-root-near invariant-loop decreases-loop
+mul-root-near : tie.Need-offset_bounds-work-source invariant-loop-i decreases-loop-i
 mul-root-near c = omega arith
 
-slice-read-root-near : tie.Need-slice-read-root-near invariant-loop decreases-loop
+slice-read-root-near : tie.Need-bounds-work-source invariant-loop-i decreases-loop-i
 slice-read-root-near c = omega arith
 
-add-root-near-2 : tie.Need-overflow-add-root-near-2 invariant-loop decreases-loop
+add-root-near-2 : tie.Need-overflow_add-target invariant-loop-i decreases-loop-i
 add-root-near-2 c = omega arith
 
-mul-root-near-2 : tie.Need-overflow-mul-root-near-2 invariant-loop decreases-loop
+mul-root-near-2 : tie.Need-offset_bounds-work-target invariant-loop-i decreases-loop-i
 mul-root-near-2 c = omega arith
 
-slice-read-root-near-2 : tie.Need-slice-read-root-near-2 invariant-loop decreases-loop
+slice-read-root-near-2 : tie.Need-bounds-work-target invariant-loop-i decreases-loop-i
 slice-read-root-near-2 c = omega arith
 
-root-near-requires : tie.Need-root-near-requires invariant-loop decreases-loop
+root-near-requires : tie.Need-root_near-requires invariant-loop-i decreases-loop-i
 root-near-requires c κs = search rules
 
-add-work : tie.Need-overflow-add-work invariant-loop decreases-loop
+add-work : tie.Need-overflow_add-work invariant-loop-i decreases-loop-i
 add-work c = omega arith
 
-mul-work : tie.Need-overflow-mul-work invariant-loop decreases-loop
+mul-work : tie.Need-offset_bounds-work-target-in-loop-i invariant-loop-i decreases-loop-i
 mul-work c = omega arith
 
-slice-write-work : tie.Need-slice-write-work invariant-loop decreases-loop
+slice-write-work : tie.Need-bounds-work-target-in-loop-i invariant-loop-i decreases-loop-i
 slice-write-work c = omega arith
 
-add-i : tie.Need-overflow-add-i invariant-loop decreases-loop
+add-i : tie.Need-overflow_step-i invariant-loop-i decreases-loop-i
 add-i c = omega arith
 
-loop-less : tie.Need-loop-smaller invariant-loop decreases-loop
+loop-less : tie.Need-loop-i-smaller invariant-loop-i decreases-loop-i
 loop-less c = omega arith
 
-loop-again : tie.Need-loop-preserved invariant-loop decreases-loop
+loop-again : tie.Need-loop-i-preserved invariant-loop-i decreases-loop-i
 loop-again c =
-    let start = c.before.before.before.before.before.before in
-    let written = c.before.before.before.before.loop.invariant in
-    let read = read-apart written start.args.source start.requires.2 (omega arith) nan in
-    written_next written (omega arith) _ _ (omega arith) (c.root-near.ensures ∙ ap (square_root binary64) read)
+    let written = c.loop-i.invariant in
+    let read = read-apart written c.args.source c.requires.2 (omega arith) nan in
+    written_next written (omega arith) _ _ (omega arith) (c.root_near.ensures ∙ ap (square_root binary64) read)
 
-same_length : tie.Need-same-length invariant-loop decreases-loop
-same_length c = c.before.loop.invariant.length-kept
+same_length : tie.Need-shape_of-work invariant-loop-i decreases-loop-i
+same_length c = c.loop-i.invariant.length-kept
 
-returns : tie.Need-returns invariant-loop decreases-loop
+returns : tie.Need-returns invariant-loop-i decreases-loop-i
 returns c =
-    let start = c.before.before.before in
-    let args = start.args in
-    written_all c.before.loop.invariant c.loop-test.false
-    (roots-of (part args.source args.count args.work.now) (length_part args.source args.count args.work.now start.requires.0))
+    let args = c.args in
+    written_all c.loop-i.invariant c.loop-i-test.false
+    (roots-of (part args.source args.count args.work.now) (length_part args.source args.count args.work.now c.requires.0))
 
-pub settle-within-spec : {M : Type 1} → statement M
-settle-within-spec =
+pub settle_within_spec : {M : Type 1} → statement M
+settle_within_spec =
     tie.close
     (tie.spec
-    invariant-loop
-    decreases-loop
+    invariant-loop-i
+    decreases-loop-i
     loop-holds
     add-root-near
     mul-root-near

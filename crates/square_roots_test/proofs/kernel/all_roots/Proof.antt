@@ -8,48 +8,48 @@ use Rattle.square_roots_test.proofs.Tested.{RootsBefore, roots-none, roots-next,
 use Rattle.square_roots_test.proofs.kernel.all_roots.Statement.{statement}
 use Rattle.square_roots_test.proofs.kernel.all_roots.Tie as tie
 
-abbrev invariant-loop : tie.invariant-loop
-invariant-loop src roots passed₀ i₀ i-end passed i = RootsBefore src roots i passed
+abbrev invariant-loop-i : tie.invariant-loop-i
+invariant-loop-i src roots passed₀ i₀ i-end passed i = RootsBefore src roots i passed
 
-abbrev decreases-loop : tie.decreases-loop
-decreases-loop src roots passed₀ i₀ i-end passed i = length src - i
+abbrev decreases-loop-i : tie.decreases-loop-i
+decreases-loop-i src roots passed₀ i₀ i-end passed i = length src - i
 
-loop-holds : tie.Need-loop-init invariant-loop decreases-loop
+loop-holds : tie.Need-loop-i-init invariant-loop-i decreases-loop-i
 loop-holds c = roots-none _ _ _
 
-mul-root-test : tie.Need-overflow-mul-root-test invariant-loop decreases-loop
+mul-root-test : tie.Need-offset_bounds-src-i invariant-loop-i decreases-loop-i
 mul-root-test c = omega arith
 
-shared-slice-read-root-test : tie.Need-shared-slice-read-root-test invariant-loop decreases-loop
+shared-slice-read-root-test : tie.Need-bounds-src-i invariant-loop-i decreases-loop-i
 shared-slice-read-root-test c = omega arith
 
-mul-root-test-2 : tie.Need-overflow-mul-root-test-2 invariant-loop decreases-loop
+mul-root-test-2 : tie.Need-offset_bounds-roots-i invariant-loop-i decreases-loop-i
 mul-root-test-2 c = omega arith
 
-shared-slice-read-root-test-2 : tie.Need-shared-slice-read-root-test-2 invariant-loop decreases-loop
+shared-slice-read-root-test-2 : tie.Need-bounds-roots-i invariant-loop-i decreases-loop-i
 shared-slice-read-root-test-2 c = omega arith
 
-root-test-requires : tie.Need-root-test-requires invariant-loop decreases-loop
+root-test-requires : tie.Need-root_test-passed-requires invariant-loop-i decreases-loop-i
 root-test-requires c κs = search rules
 
-add-i : tie.Need-overflow-add-i invariant-loop decreases-loop
+add-i : tie.Need-overflow_step-i invariant-loop-i decreases-loop-i
 add-i c = omega arith
 
-loop-less : tie.Need-loop-smaller invariant-loop decreases-loop
+loop-less : tie.Need-loop-i-smaller invariant-loop-i decreases-loop-i
 loop-less c = omega arith
 
-loop-again : tie.Need-loop-preserved invariant-loop decreases-loop
-loop-again c = roots-next _ _ _ c.before.before.before.before.loop.invariant c.before.before.before.loop-test.true c.root-test.ensures
+loop-again : tie.Need-loop-i-preserved invariant-loop-i decreases-loop-i
+loop-again c = roots-next _ _ _ c.loop-i.invariant c.loop-i-test.true c.root_test-passed.ensures
 
-returns : tie.Need-returns invariant-loop decreases-loop
-returns c = λ yes. roots-all _ _ c.before.before.before.before.requires c.loop-test.false c.before.loop.invariant (leb-true _ _ yes)
+returns : tie.Need-returns invariant-loop-i decreases-loop-i
+returns c = λ yes. roots-all _ _ c.requires c.loop-i-test.false c.loop-i.invariant (leb-true _ _ yes)
 
-pub all-roots-spec : {M : Type 1} → statement M
-all-roots-spec =
+pub all_roots_spec : {M : Type 1} → statement M
+all_roots_spec =
     tie.close
     (tie.spec
-    invariant-loop
-    decreases-loop
+    invariant-loop-i
+    decreases-loop-i
     loop-holds
     mul-root-test
     shared-slice-read-root-test

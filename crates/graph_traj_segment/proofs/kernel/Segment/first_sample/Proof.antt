@@ -8,5 +8,5 @@ returns : tie.Need-returns
 unfolding sample_time
 returns c = refl
 
-pub first-sample-spec : {M : Type 1} → statement M
-first-sample-spec = tie.close (tie.spec returns)
+pub first_sample_spec : {M : Type 1} → statement M
+first_sample_spec = tie.close (tie.spec returns)

@@ -5,8 +5,8 @@ use Rattle.graph_traj_segment.proofs.CountsExact.{count-exact}
 use Rattle.graph_traj_segment.proofs.kernel.Segment.new.Statement.{statement}
 use Rattle.graph_traj_segment.proofs.kernel.Segment.new.Tie as tie
 
-int-to-float-t5 : tie.Need-int-to-float-t5
-int-to-float-t5 c = count-exact _ c.before.requires
+int-to-float-t5 : tie.Need-int_to_float-result
+int-to-float-t5 c = count-exact _ c.requires
 
 returns : tie.Need-returns
 unfolding segment_tau

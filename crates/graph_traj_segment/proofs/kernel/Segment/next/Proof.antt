@@ -4,11 +4,11 @@ use borrow.Author.Rules.{rules}
 use Rattle.graph_traj_segment.proofs.kernel.Segment.next.Statement.{statement}
 use Rattle.graph_traj_segment.proofs.kernel.Segment.next.Tie as tie
 
-add-self : tie.Need-overflow-add-self
+add-self : tie.Need-overflow_add-self
 add-self c = search rules
 
 returns : tie.Need-returns
 returns c = refl
 
-pub next-spec : {M : Type 1} → statement M
-next-spec = tie.close (tie.spec add-self returns)
+pub next_spec : {M : Type 1} → statement M
+next_spec = tie.close (tie.spec add-self returns)

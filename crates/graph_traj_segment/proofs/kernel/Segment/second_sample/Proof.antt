@@ -8,5 +8,5 @@ returns : tie.Need-returns
 unfolding sample_time
 returns c = refl
 
-pub second-sample-spec : {M : Type 1} → statement M
-second-sample-spec = tie.close (tie.spec returns)
+pub second_sample_spec : {M : Type 1} → statement M
+second_sample_spec = tie.close (tie.spec returns)

@@ -5,12 +5,12 @@ use Rattle.graph_traj_segment.proofs.CountsExact.{count-exact}
 use Rattle.graph_traj_segment.proofs.kernel.Segment.step_start.Statement.{statement}
 use Rattle.graph_traj_segment.proofs.kernel.Segment.step_start.Tie as tie
 
-int-to-float-result : tie.Need-int-to-float-result
-int-to-float-result c = count-exact _ c.before.requires
+int-to-float-result : tie.Need-int_to_float-result
+int-to-float-result c = count-exact _ c.requires
 
 returns : tie.Need-returns
 unfolding step_start
 returns c = refl
 
-pub step-start-spec : {M : Type 1} → statement M
-step-start-spec = tie.close (tie.spec int-to-float-result returns)
+pub step_start_spec : {M : Type 1} → statement M
+step_start_spec = tie.close (tie.spec int-to-float-result returns)
