@@ -198,6 +198,9 @@ def turn(text, v, function):
     text = re.sub(r"\b(invariant|decreases)-([\w'\-]+)", of_loop, text)
     text = re.sub(r"tie\.((?!Need-)[A-Z][\w'\-]*)", place, text)
     text = re.sub(r"\.type-inv(?![\w'\-])", ".type_inv", text)
+    if re.search(r"\bap not\b", text):
+        # a test of `!x` is a fact about x now
+        text = re.sub(r"(?<!ap not )(c\.if-not-[\w'\-]+\.(?:true|false))", r"(ap not \1)", text)
     spec = plain(function) + "-spec"
     text = re.sub(r"(?<![\w'\-])" + re.escape(spec) + r"(?![\w'\-])", function + "_spec", text)
     return text, missing

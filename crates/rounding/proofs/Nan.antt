@@ -3,8 +3,8 @@ use mathlib.Core.Path.{◌≡◌, refl, sym, ap, ◌∙◌, subst}
 use mathlib.Core.Bool.{Bool, true, false, not, cond}
 use Prim.Native.Nat.{ℕ}
 use lib.Dec.{T}
-use lib.Ieee.{Float, nan, inf, fin, Format, of_bits, to_bits, nan_bits, is_nan, ne, eq, div, fits}
-use lib.Ieee.Bits.{nan_bits_is, of_bits-to_bits}
+use lib.Ieee.{Float, nan, inf, fin, Format, of_bits, nan_bits, is_nan, ne, eq, div}
+use lib.Ieee.Bits.{nan_bits_is}
 use lib.Ieee.Compare.{differs_from_itself}
 use Rattle.rounding.specs.SignOfZero.{+0}
 

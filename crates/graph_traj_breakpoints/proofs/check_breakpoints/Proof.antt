@@ -11,59 +11,57 @@ use Rattle.graph_traj_breakpoints.specs.LookupChecks.{not_rising_at, breakpoints
 use Rattle.graph_traj_breakpoints.proofs.check_breakpoints.Statement.{statement}
 use Rattle.graph_traj_breakpoints.proofs.check_breakpoints.Tie as tie
 
-abbrev invariant-loop : tie.invariant-loop
-invariant-loop breakpoints i₀ i-end i = Passed (not_rising_at breakpoints) (length breakpoints) i
+abbrev invariant-loop-i : tie.invariant-loop-i
+invariant-loop-i breakpoints i₀ i-end i = Passed (not_rising_at breakpoints) (length breakpoints) i
 
-abbrev decreases-loop : tie.decreases-loop
-decreases-loop breakpoints i₀ i-end i = length breakpoints - i
+abbrev decreases-loop-i : tie.decreases-loop-i
+decreases-loop-i breakpoints i₀ i-end i = length breakpoints - i
 
-loop-holds : tie.Need-loop-init invariant-loop decreases-loop
+loop-holds : tie.Need-loop-i-init invariant-loop-i decreases-loop-i
 loop-holds c = passed_none
 
-is-rising-requires : tie.Need-is-rising-requires invariant-loop decreases-loop
-is-rising-requires c κs = c.loop-test.true
+is-rising-requires : tie.Need-is_rising-requires invariant-loop-i decreases-loop-i
+is-rising-requires c κs = c.loop-i-test.true
 
-mul-t6 : tie.Need-overflow-mul-t6 invariant-loop decreases-loop
+mul-t6 : tie.Need-offset_bounds-breakpoints-i invariant-loop-i decreases-loop-i
 mul-t6 c =
-    let h : c.before.before.before.loop.i < length c.before.before.before.before.before.args.breakpoints.now =
-    c.before.before.loop-test.true in
+    let h : c.loop-i.i < length c.args.breakpoints.now =
+    c.loop-i-test.true in
     search rules
 
-shared-slice-read-t8 : tie.Need-shared-slice-read-t8 invariant-loop decreases-loop
-shared-slice-read-t8 c = c.before.before.before.loop-test.true
+shared-slice-read-t8 : tie.Need-bounds-breakpoints-i invariant-loop-i decreases-loop-i
+shared-slice-read-t8 c = c.loop-i-test.true
 
-returns : tie.Need-returns invariant-loop decreases-loop
+returns : tie.Need-returns-then-not-is_rising invariant-loop-i decreases-loop-i
 unfolding breakpoints_fault
 returns c =
-    let test = c.before.before.before in
-    refuses-first _ _ _ _ test.loop-test.true
-    (passed-found test.before.loop.invariant
-    (not-false _ (sym c.before.before.is-rising.ensures ∙ not-true _ c.before.if1.true)))
+    refuses-first _ _ _ _ c.loop-i-test.true
+    (passed-found c.loop-i.invariant
+    (not-false _ (sym c.is_rising.ensures ∙ not-true _ c.if-not-is_rising.true)))
 
-add-i : tie.Need-overflow-add-i invariant-loop decreases-loop
+add-i : tie.Need-overflow_step-i invariant-loop-i decreases-loop-i
 add-i c = omega arith
 
-loop-less : tie.Need-loop-smaller invariant-loop decreases-loop
+loop-less : tie.Need-loop-i-smaller invariant-loop-i decreases-loop-i
 loop-less c = omega arith
 
-loop-again : tie.Need-loop-preserved invariant-loop decreases-loop
+loop-again : tie.Need-loop-i-preserved invariant-loop-i decreases-loop-i
 loop-again c =
-    let test = c.before.before in
-    passed-more test.before.loop.invariant test.loop-test.true
-    (not-true _ (sym c.before.is-rising.ensures ∙ not-false _ c.if1.false))
+    passed-more c.loop-i.invariant c.loop-i-test.true
+    (not-true _ (sym c.is_rising.ensures ∙ not-false _ c.if-not-is_rising.false))
 
-returns-2 : tie.Need-returns-2 invariant-loop decreases-loop
+returns-2 : tie.Need-returns-then-not-is_rising invariant-loop-i decreases-loop-i
 unfolding breakpoints_fault
 returns-2 c =
-    let l = c.before.loop in
+    let l = c.loop-i in
     accepts-none _ _ _ (λ j m. l.invariant.none j (omega arith))
 
-pub check-breakpoints-spec : {M : Type 1} → statement M
-check-breakpoints-spec =
+pub check_breakpoints_spec : {M : Type 1} → statement M
+check_breakpoints_spec =
     tie.close
     (tie.spec
-    invariant-loop
-    decreases-loop
+    invariant-loop-i
+    decreases-loop-i
     loop-holds
     is-rising-requires
     mul-t6

@@ -6,13 +6,13 @@ use Rattle.graph_traj_breakpoints.specs.LookupChecks.{lookup_time_fault}
 use Rattle.graph_traj_breakpoints.proofs.check_lookup_time.Statement.{statement}
 use Rattle.graph_traj_breakpoints.proofs.check_lookup_time.Tie as tie
 
-returns : tie.Need-returns
+returns : tie.Need-returns-then-first-t
 unfolding lookup_time_fault
-returns c = accepts _ _ (ap not c.if1.true)
+returns c = accepts _ _ (ap not c.if-first-t.true)
 
-returns-2 : tie.Need-returns-2
+returns-2 : tie.Need-returns-else-first-t
 unfolding lookup_time_fault
-returns-2 c = refuses _ _ (ap not c.if1.false)
+returns-2 c = refuses _ _ (ap not c.if-first-t.false)
 
-pub check-lookup-time-spec : {M : Type 1} → statement M
-check-lookup-time-spec = tie.close (tie.spec returns returns-2)
+pub check_lookup_time_spec : {M : Type 1} → statement M
+check_lookup_time_spec = tie.close (tie.spec returns returns-2)

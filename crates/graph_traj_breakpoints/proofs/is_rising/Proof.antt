@@ -35,32 +35,32 @@ module _ (breakpoints : List Float) (i : ℕ) (answer : Bool) (e : answer ≡ fi
       let later : ltb 0 i ≡ true = lt-ltb 0 i (omega arith) in
       rw (later, e) (opposite (finite (breakpoint breakpoints i)) true _)
 
-mul-x : tie.Need-overflow-mul-x
+mul-x : tie.Need-offset_bounds-breakpoints-i
 mul-x c = search rules
 
-shared-slice-read-x : tie.Need-shared-slice-read-x
+shared-slice-read-x : tie.Need-bounds-breakpoints-i
 shared-slice-read-x c = search rules
 
-is-finite-requires : tie.Need-is-finite-requires
+is-finite-requires : tie.Need-is_finite-is_finite-requires
 is-finite-requires c κs = search rules
 
-returns : tie.Need-returns
-returns c = at_first _ _ _ c.before.is_finite.ensures c.if1.true
+returns : tie.Need-returns-then-i-eq0
+returns c = at_first _ _ _ c.is_finite-is_finite.ensures c.if-i-eq0.true
 
-sub-result : tie.Need-overflow-sub-result
+sub-result : tie.Need-overflow_sub-result
 sub-result c = search rules
 
-mul-result : tie.Need-overflow-mul-result
+mul-result : tie.Need-offset_bounds-breakpoints-i-2
 mul-result c = search rules
 
-shared-slice-read-result : tie.Need-shared-slice-read-result
+shared-slice-read-result : tie.Need-bounds-breakpoints-i-2
 shared-slice-read-result c = search rules
 
-returns-2 : tie.Need-returns-2
-returns-2 c = at-later _ _ _ c.before.before.is_finite.ensures c.before.if1.false
+returns-2 : tie.Need-returns-then-i-eq0
+returns-2 c = at-later _ _ _ c.is_finite-is_finite.ensures c.if-i-eq0.false
 
-pub is-rising-spec : {M : Type 1} → statement M
-is-rising-spec =
+pub is_rising_spec : {M : Type 1} → statement M
+is_rising_spec =
     tie.close
     (tie.spec
     mul-x
