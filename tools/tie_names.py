@@ -41,7 +41,7 @@ def names_of(crate):
 
 class Names:
     def __init__(self, v):
-        self.needs, self.steps, self.arms = {}, {}, {}
+        self.needs, self.steps, self.arms, self.params = {}, {}, {}, {}
         for old, new in v["needs"]:
             self.needs.setdefault(plain(old), new)
         for old, new in v["needs"]:
@@ -52,6 +52,7 @@ class Names:
                     self.arms.setdefault((plain(old), tuple(path)), (arm[0], field))
             if p[2][0]:
                 self.steps.setdefault(plain(p[2][0]), p[2][1])
+                self.params.setdefault(p[2][1], v["params"].get(p[3]) or [])
         self.parent = {plain(p[0]): p[1] and plain(p[1]) for p in v["places"]}
         self.merged = {plain(p[0]): (arm[1] if arm else 1) for p, arm in zip(v["places"], v["arms"])}
         self.asked_at = {plain(n[0]): plain(at[0]) for n, at in zip(v["needs"], v["asked_at"])}
@@ -64,7 +65,7 @@ class Names:
         m = re.search(r"\.Need-([\w'\-]+)", block)
         if m:
             return self.asked_at.get(self.old_name(plain(m.group(1))))
-        m = re.search(r"\(c : [\w'\-]+\.([A-Z][\w'\-]*)\)", block)
+        m = re.search(r"\(c : [\w'\-]+\.([A-Z][\w'\-]*)[ )]", block) or re.search(r" : [\w'\-]+\.([A-Z][\w'\-]*)[ \w'\-]* →", block)
         return plain(m.group(1)) if m and plain(m.group(1)) in self.parent else None
 
     def asked(self, name):
@@ -101,7 +102,13 @@ class Names:
                 arm, field = self.arms[name, tuple(path[:k])]
                 return [arm, field] + path[k:]
         if name in self.steps:
-            return [self.steps[name]] + path
+            step = self.steps[name]
+            if path and path[0] in ("new", "auto") and "0" in path:
+                # what was found by its place in a tuple has the parameter's name
+                k, of = path.index("0") - 1, self.params.get(step, [])
+                if all(p == "1" for p in path[1:k + 1]) and k < len(of):
+                    path = [path[0], of[k]] + path[k + 2:]
+            return [step] + path
         return None
 
 
@@ -110,6 +117,10 @@ PATH = r"(?<![\w'\-.])(%s)(?![\w'\-])((?:\.before)*)((?:\.[\w'\-\u00ab\u00bb]+)*
 
 def turn_paths(text, names, missing):
     """In one answer: names of records go, and steps are fields of c."""
+    local = re.search(r"\blet c(?= [:=])", text)
+    if local:
+        # a local c, which is no record, would hide the goal's
+        text = text[:local.start()] + re.sub(r"(?<![\w'\-.])c(?![\w'\-.])", "c'", text[local.start():])
     aliases, at = ["c"], {"c": names.place_of(text)}
 
     def chain(base, befores):
@@ -198,8 +209,9 @@ def turn(text, v, function):
     text = re.sub(r"\b(invariant|decreases)-([\w'\-]+)", of_loop, text)
     text = re.sub(r"tie\.((?!Need-)[A-Z][\w'\-]*)", place, text)
     text = re.sub(r"\.type-inv(?![\w'\-])", ".type_inv", text)
+    # a test of `!x` is a fact about x now
+    text = re.sub(r"\(not-(?:true|false) _ (c\.if-not-[\w'\-]+\.(?:true|false))\)|not-(?:true|false) _ (c\.if-not-[\w'\-]+\.(?:true|false))", lambda m: m.group(1) or m.group(2), text)
     if re.search(r"\bap not\b", text):
-        # a test of `!x` is a fact about x now
         text = re.sub(r"(?<!ap not )(c\.if-not-[\w'\-]+\.(?:true|false))", r"(ap not \1)", text)
     spec = plain(function) + "-spec"
     text = re.sub(r"(?<![\w'\-])" + re.escape(spec) + r"(?![\w'\-])", function + "_spec", text)

@@ -14,7 +14,8 @@ use lib.ListN.{length}
 use lib.Ieee.{Float, Format, nan, inf, fin, up, down, neg, lt, fits}
 use lib.Ieee
 use lib.Ieee.Fits.{neg-fits, up_pos, down_pos}
-use Rattle.rounding.specs.SignOfZero.{+0, Same, same-is}
+use Rattle.rounding.specs.SignOfZero.{+0, Same}
+use Rattle.rounding.proofs.SignOfZero.{same-is}
 use Rattle.rounding.proofs.ExactRounding.{zero-numerator}
 use Rattle.rounding.proofs.Same.{same_refl, same-equal, same-trans}
 use Rattle.rounding.proofs.Zeros.{add-zero-left}

@@ -19,7 +19,8 @@ use lib.Ieee.Exact.{HasValue, round_exact}
 use lib.Ieee.Scale.{round_same, finite, overflow}
 use lib.Ieee.Positive.{above_of_le, values_of_le}
 use mir.Facts.{or_yes}
-use Rattle.rounding.specs.SignOfZero.{+0, Zero, zero_is}
+use Rattle.rounding.specs.SignOfZero.{+0, Zero}
+use Rattle.rounding.proofs.SignOfZero.{zero_is}
 use Rattle.rounding.specs.StepLength.{least_step, least_step-value, step_length, minus_half}
 use Rattle.rounding.proofs.Value.{parts, place, place-value, fine-place, zero_exponent}
 use Rattle.rounding.proofs.ExactRounding.{exact-if-finite, mul-value}

@@ -1,3 +1,4 @@
+pub mod SignOfZero
 pub mod Value
 pub mod ExactRounding
 pub mod Same

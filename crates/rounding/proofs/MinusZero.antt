@@ -18,7 +18,8 @@ use lib.Ieee.Exact.{round_exact}
 use lib.Ieee.Order.{round_mono}
 use lib.Ieee.Positive.{positive, above, above_of_le, positive_of_value}
 use lib.Ieee.Scale.{overflow}
-use Rattle.rounding.specs.SignOfZero.{+0, Zero, Same, same-is}
+use Rattle.rounding.specs.SignOfZero.{+0, Zero, Same}
+use Rattle.rounding.proofs.SignOfZero.{same-is}
 use Rattle.rounding.proofs.Value.{parts, place, place-value, zero_exponent}
 
 -- x is -0

@@ -13,7 +13,8 @@ use lib.Ieee.{Float, nan, inf, fin, Format, up, down, round, neg, sum, add, sub,
 use lib.Ieee.Fits.{up_pos, down_pos, and_l, and_r}
 use lib.Ieee.Scale.{finite}
 use mir.Facts.{or_yes}
-use Rattle.rounding.specs.SignOfZero.{+0, Zero, Same, same-is}
+use Rattle.rounding.specs.SignOfZero.{+0, Zero, Same}
+use Rattle.rounding.proofs.SignOfZero.{same-is}
 use Rattle.rounding.proofs.Value.{one_way}
 use Rattle.rounding.proofs.ExactRounding.{zero-numerator, round-zero, rounded-is}
 use Rattle.rounding.proofs.Same.{same-equal, same_refl, same-sym, same-trans}

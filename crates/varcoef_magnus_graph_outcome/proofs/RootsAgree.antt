@@ -6,7 +6,8 @@ use Prim.Native.Nat.{ℕ, zero, suc}
 use native.Mathlib.Omega.{arith}
 use lib.ListN.{length, get_or, length-map}
 use lib.Ieee.{Float, nan, inf, fin, Format}
-use Rattle.rounding.specs.SignOfZero.{Zero, Same, same-is}
+use Rattle.rounding.specs.SignOfZero.{Zero, Same}
+use Rattle.rounding.proofs.SignOfZero.{same-is}
 use Rattle.rounding.proofs.Same.{same-equal}
 use Rattle.arithmetic.specs.SameList.{SameList}
 use Rattle.ieee_square_root.specs.SquareRoot.{square_root}

@@ -37,7 +37,7 @@ unfolding breakpoints_fault
 returns c =
     refuses-first _ _ _ _ c.loop-i-test.true
     (passed-found c.loop-i.invariant
-    (not-false _ (sym c.is_rising.ensures ∙ not-true _ c.if-not-is_rising.true)))
+    (not-false _ (sym c.is_rising.ensures ∙ c.if-not-is_rising.true)))
 
 add-i : tie.Need-overflow_step-i invariant-loop-i decreases-loop-i
 add-i c = omega arith
@@ -48,9 +48,9 @@ loop-less c = omega arith
 loop-again : tie.Need-loop-i-preserved invariant-loop-i decreases-loop-i
 loop-again c =
     passed-more c.loop-i.invariant c.loop-i-test.true
-    (not-true _ (sym c.is_rising.ensures ∙ not-false _ c.if-not-is_rising.false))
+    (not-true _ (sym c.is_rising.ensures ∙ c.if-not-is_rising.false))
 
-returns-2 : tie.Need-returns-then-not-is_rising invariant-loop-i decreases-loop-i
+returns-2 : tie.Need-returns invariant-loop-i decreases-loop-i
 unfolding breakpoints_fault
 returns-2 c =
     let l = c.loop-i in

@@ -80,7 +80,7 @@ shared-slice-read-check-lookup-time-2 c = let h = counted c.before.before in ome
 check-lookup-time-requires : tie.Need-check_lookup_time-requires
 check-lookup-time-requires c κs = search rules
 
-returns-4 : tie.Need-returns-in_default
+returns-4 : tie.Need-returns
 unfolding lookup_fault
 returns-4 c =
     accepted-then _ _ _ _ c.check_segment_count-count.ensures c.in-Accepted.is

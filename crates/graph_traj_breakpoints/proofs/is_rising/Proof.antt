@@ -56,7 +56,7 @@ mul-result c = search rules
 shared-slice-read-result : tie.Need-bounds-breakpoints-i-2
 shared-slice-read-result c = search rules
 
-returns-2 : tie.Need-returns-then-i-eq0
+returns-2 : tie.Need-returns
 returns-2 c = at-later _ _ _ c.is_finite-is_finite.ensures c.if-i-eq0.false
 
 pub is_rising_spec : {M : Type 1} → statement M

@@ -34,7 +34,7 @@ is-finite-requires c κs = search rules
 returns : tie.Need-returns-then-not-is_finite invariant-loop-k decreases-loop-k
 returns c =
     passed-found c.loop-k.invariant
-    (ap not (sym c.is_finite.ensures) ∙ c.if-not-is_finite.true)
+    (ap not (sym c.is_finite.ensures) ∙ (ap not c.if-not-is_finite.true))
 
 add-k : tie.Need-overflow_add-k invariant-loop-k decreases-loop-k
 add-k c = omega arith
@@ -45,7 +45,7 @@ loop-less c = omega arith
 loop-again : tie.Need-loop-k-preserved invariant-loop-k decreases-loop-k
 loop-again c =
     passed-more c.loop-k.invariant c.loop-k-test.true
-    (ap not (sym c.is_finite.ensures) ∙ c.if-not-is_finite.false)
+    (ap not (sym c.is_finite.ensures) ∙ (ap not c.if-not-is_finite.false))
 
 returns-2 : tie.Need-returns invariant-loop-k decreases-loop-k
 returns-2 c = passed-all c.loop-k.invariant c.loop-k-test.false

@@ -6,13 +6,13 @@ use Rattle.graph_traj_parts.specs.TrajectoryChecks.{first_breakpoint_fault}
 use Rattle.graph_traj_parts.proofs.check_first_breakpoint.Statement.{statement}
 use Rattle.graph_traj_parts.proofs.check_first_breakpoint.Tie as tie
 
-returns : tie.Need-returns
+returns : tie.Need-returns-then-first
 unfolding first_breakpoint_fault
-returns c = accepts _ _ (ap not c.if1.true)
+returns c = accepts _ _ (ap not c.if-first.true)
 
-returns-2 : tie.Need-returns-2
+returns-2 : tie.Need-returns-else-first
 unfolding first_breakpoint_fault
-returns-2 c = refuses _ _ (ap not c.if1.false)
+returns-2 c = refuses _ _ (ap not c.if-first.false)
 
-pub check-first-breakpoint-spec : {M : Type 1} → statement M
-check-first-breakpoint-spec = tie.close (tie.spec returns returns-2)
+pub check_first_breakpoint_spec : {M : Type 1} → statement M
+check_first_breakpoint_spec = tie.close (tie.spec returns returns-2)

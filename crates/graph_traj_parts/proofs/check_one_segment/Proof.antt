@@ -4,13 +4,13 @@ use Rattle.graph_traj_parts.specs.TrajectoryChecks.{one_segment_fault}
 use Rattle.graph_traj_parts.proofs.check_one_segment.Statement.{statement}
 use Rattle.graph_traj_parts.proofs.check_one_segment.Tie as tie
 
-returns : tie.Need-returns
+returns : tie.Need-returns-then-segments-eq1
 unfolding one_segment_fault
-returns c = accepts-equal _ _ _ c.if1.true
+returns c = accepts-equal _ _ _ c.if-segments-eq1.true
 
-returns-2 : tie.Need-returns-2
+returns-2 : tie.Need-returns-else-segments-eq1
 unfolding one_segment_fault
-returns-2 c = refuses-unequal _ _ _ c.if1.false
+returns-2 c = refuses-unequal _ _ _ c.if-segments-eq1.false
 
-pub check-one-segment-spec : {M : Type 1} → statement M
-check-one-segment-spec = tie.close (tie.spec returns returns-2)
+pub check_one_segment_spec : {M : Type 1} → statement M
+check_one_segment_spec = tie.close (tie.spec returns returns-2)

@@ -10,97 +10,86 @@ use Rattle.graph_traj_breakpoints.proofs.LookupSound.{segment-count-accepted}
 use Rattle.graph_traj_parts.proofs.check_trajectory.Statement.{statement}
 use Rattle.graph_traj_parts.proofs.check_trajectory.Tie as tie
 
-check-pattern-requires : tie.Need-check-pattern-requires
+check-pattern-requires : tie.Need-check_pattern-pattern-requires
 check-pattern-requires c κs = search rules
 
-enum_told : tie.Need-enum-told
+enum_told : tie.Need-enum_told-1
 enum_told c = search rules
 
-enum-told-2 : tie.Need-enum-told-2
+enum-told-2 : tie.Need-enum_told-in_default
 enum-told-2 c = search rules
 
-returns : tie.Need-returns
+returns : tie.Need-returns-in_default
 unfolding trajectory_fault
 returns c =
-    refused-here _ _ _ _ (fault-is c.before.before.check-pattern.ensures) c.enum-told2.given.1
+    refused-here _ _ _ _ (fault-is c.check_pattern-pattern.ensures) c.in_default.is
 
-check-segment-count-requires : tie.Need-check-segment-count-requires
+check-segment-count-requires : tie.Need-check_segment_count-number-requires
 check-segment-count-requires c κs = search rules
 
-enum-told-3 : tie.Need-enum-told-3
+enum-told-3 : tie.Need-enum_told-in-Accepted-number
 enum-told-3 c = search rules
 
-enum-told-4 : tie.Need-enum-told-4
+enum-told-4 : tie.Need-enum_told-in_default-number
 enum-told-4 c = search rules
 
-returns-2 : tie.Need-returns-2
+returns-2 : tie.Need-returns-in_default-number
 unfolding trajectory_fault
 returns-2 c =
-    let pattern = c.before.before.before in
-    accepted-then _ _ _ _ (fault-is pattern.before.before.check-pattern.ensures) pattern.enum_told.given.1
-    (refused-here _ _ _ _ c.before.before.check-segment-count.ensures c.enum-told4.given.1)
+    accepted-then _ _ _ _ (fault-is c.check_pattern-pattern.ensures) c.in-Accepted.is
+    (refused-here _ _ _ _ c.check_segment_count-number.ensures c.in_default-number.is)
 
-check-counts-requires : tie.Need-check-counts-requires
-check-counts-requires c κs =
-    let pattern = c.before.before.before in (
-      ((segment-count-accepted _).0 (sym c.before.before.check-segment-count.ensures ∙ c.enum-told3.given.1)).1,
-      ((pattern-accepted _ _ _).0
-          (fault-accepted pattern.before.before.check-pattern.ensures pattern.enum_told.given.1)).rows.few-entries,
-    )
+check-counts-requires : tie.Need-check_counts-counts-requires
+check-counts-requires c κs = (
+  ((segment-count-accepted _).0 (sym c.check_segment_count-number.ensures ∙ c.in-Accepted-number.is)).1,
+  ((pattern-accepted _ _ _).0
+      (fault-accepted c.check_pattern-pattern.ensures c.in-Accepted.is)).rows.few-entries,
+)
 
-enum-told-5 : tie.Need-enum-told-5
+enum-told-5 : tie.Need-enum_told-in-Accepted-counts
 enum-told-5 c = search rules
 
-enum-told-6 : tie.Need-enum-told-6
+enum-told-6 : tie.Need-enum_told-in_default-counts
 enum-told-6 c = search rules
 
-returns-3 : tie.Need-returns-3
+returns-3 : tie.Need-returns-in_default-counts
 unfolding trajectory_fault
 returns-3 c =
-    let number = c.before.before.before in
-    let pattern = number.before.before.before in
-    accepted-then _ _ _ _ (fault-is pattern.before.before.check-pattern.ensures) pattern.enum_told.given.1
-    (accepted-then _ _ _ _ number.before.before.check-segment-count.ensures number.enum-told3.given.1
-    (refused-here _ _ _ _ c.before.before.check-counts.ensures c.enum-told6.given.1))
+    accepted-then _ _ _ _ (fault-is c.check_pattern-pattern.ensures) c.in-Accepted.is
+    (accepted-then _ _ _ _ c.check_segment_count-number.ensures c.in-Accepted-number.is
+    (refused-here _ _ _ _ c.check_counts-counts.ensures c.in_default-counts.is))
 
-check-breakpoints-requires : tie.Need-check-breakpoints-requires
+check-breakpoints-requires : tie.Need-check_breakpoints-rising-requires
 check-breakpoints-requires c κs = search rules
 
-enum-told-7 : tie.Need-enum-told-7
+enum-told-7 : tie.Need-enum_told-in-Accepted-rising
 enum-told-7 c = search rules
 
-enum-told-8 : tie.Need-enum-told-8
+enum-told-8 : tie.Need-enum_told-in_default-rising
 enum-told-8 c = search rules
 
-returns-4 : tie.Need-returns-4
+returns-4 : tie.Need-returns-in_default-rising
 unfolding trajectory_fault
 returns-4 c =
-    let counts = c.before.before.before in
-    let number = counts.before.before.before in
-    let pattern = number.before.before.before in
-    accepted-then _ _ _ _ (fault-is pattern.before.before.check-pattern.ensures) pattern.enum_told.given.1
-    (accepted-then _ _ _ _ number.before.before.check-segment-count.ensures number.enum-told3.given.1
-    (accepted-then _ _ _ _ counts.before.before.check-counts.ensures counts.enum-told5.given.1
-    (refused-here _ _ _ _ c.before.before.check-breakpoints.ensures c.enum-told8.given.1)))
+    accepted-then _ _ _ _ (fault-is c.check_pattern-pattern.ensures) c.in-Accepted.is
+    (accepted-then _ _ _ _ c.check_segment_count-number.ensures c.in-Accepted-number.is
+    (accepted-then _ _ _ _ c.check_counts-counts.ensures c.in-Accepted-counts.is
+    (refused-here _ _ _ _ c.check_breakpoints-rising.ensures c.in_default-rising.is)))
 
-check-lists-requires : tie.Need-check-lists-requires
+check-lists-requires : tie.Need-check_lists-requires
 check-lists-requires c κs = search rules
 
-returns-5 : tie.Need-returns-5
+returns-5 : tie.Need-returns
 unfolding trajectory_fault
 returns-5 c =
-    let rising = c.before in
-    let counts = rising.before.before.before in
-    let number = counts.before.before.before in
-    let pattern = number.before.before.before in
-    accepted-then _ _ _ _ (fault-is pattern.before.before.check-pattern.ensures) pattern.enum_told.given.1
-    (accepted-then _ _ _ _ number.before.before.check-segment-count.ensures number.enum-told3.given.1
-    (accepted-then _ _ _ _ counts.before.before.check-counts.ensures counts.enum-told5.given.1
-    (accepted-then _ _ _ _ rising.before.before.check-breakpoints.ensures rising.enum-told7.given.1
-    c.check-lists.ensures)))
+    accepted-then _ _ _ _ (fault-is c.check_pattern-pattern.ensures) c.in-Accepted.is
+    (accepted-then _ _ _ _ c.check_segment_count-number.ensures c.in-Accepted-number.is
+    (accepted-then _ _ _ _ c.check_counts-counts.ensures c.in-Accepted-counts.is
+    (accepted-then _ _ _ _ c.check_breakpoints-rising.ensures c.in-Accepted-rising.is
+    c.check_lists.ensures)))
 
-pub check-trajectory-spec : {M : Type 1} → statement M
-check-trajectory-spec =
+pub check_trajectory_spec : {M : Type 1} → statement M
+check_trajectory_spec =
     tie.close
     (tie.spec
     check-pattern-requires

@@ -4,13 +4,13 @@ use Rattle.magnus_graph_faults.specs.StepChecks.{radius_fault}
 use Rattle.magnus_graph_checks.proofs.check_radius.Statement.{statement}
 use Rattle.magnus_graph_checks.proofs.check_radius.Tie as tie
 
-returns : tie.Need-returns
+returns : tie.Need-returns-then-radius_check-bound
 unfolding radius_fault
-returns c = refuses _ _ c.if1.true
+returns c = refuses _ _ c.if-radius_check-bound.true
 
-returns-2 : tie.Need-returns-2
+returns-2 : tie.Need-returns-else-radius_check-bound
 unfolding radius_fault
-returns-2 c = accepts _ _ c.if1.false
+returns-2 c = accepts _ _ c.if-radius_check-bound.false
 
-pub check-radius-spec : {M : Type 1} → statement M
-check-radius-spec = tie.close (tie.spec returns returns-2)
+pub check_radius_spec : {M : Type 1} → statement M
+check_radius_spec = tie.close (tie.spec returns returns-2)

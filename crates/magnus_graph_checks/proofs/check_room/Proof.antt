@@ -5,13 +5,13 @@ use Rattle.magnus_graph_faults.specs.StepChecks.{room_fault}
 use Rattle.magnus_graph_checks.proofs.check_room.Statement.{statement}
 use Rattle.magnus_graph_checks.proofs.check_room.Tie as tie
 
-returns : tie.Need-returns
+returns : tie.Need-returns-then-work-need
 unfolding room_fault
-returns c = refuses _ _ (lt-ltb _ _ c.if1.true)
+returns c = refuses _ _ (lt-ltb _ _ c.if-work-need.true)
 
-returns-2 : tie.Need-returns-2
+returns-2 : tie.Need-returns-else-work-need
 unfolding room_fault
-returns-2 c = accepts _ _ (le-ltb _ _ c.if1.false)
+returns-2 c = accepts _ _ (le-ltb _ _ c.if-work-need.false)
 
-pub check-room-spec : {M : Type 1} → statement M
-check-room-spec = tie.close (tie.spec returns returns-2)
+pub check_room_spec : {M : Type 1} → statement M
+check_room_spec = tie.close (tie.spec returns returns-2)

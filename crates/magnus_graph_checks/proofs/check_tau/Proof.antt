@@ -11,16 +11,16 @@ use Rattle.magnus_graph_checks.proofs.check_tau.Tie as tie
 same_test : (answer finite below t : Bool) → answer ≡ finite → (not answer || below) ≡ t → (not finite || below) ≡ t
 same_test answer finite below t e p = rw e at p
 
-is-finite-requires : tie.Need-is-finite-requires
+is-finite-requires : tie.Need-is_finite-requires
 is-finite-requires c κs = search rules
 
-returns : tie.Need-returns
+returns : tie.Need-returns-then-is_finite-tau
 unfolding tau_fault
-returns c = refuses _ _ (same_test _ _ _ _ c.before.is_finite.ensures c.if1.true)
+returns c = refuses _ _ (same_test _ _ _ _ c.is_finite.ensures c.if-is_finite-tau.true)
 
-returns-2 : tie.Need-returns-2
+returns-2 : tie.Need-returns-else-is_finite-tau
 unfolding tau_fault
-returns-2 c = accepts _ _ (same_test _ _ _ _ c.before.is_finite.ensures c.if1.false)
+returns-2 c = accepts _ _ (same_test _ _ _ _ c.is_finite.ensures c.if-is_finite-tau.false)
 
-pub check-tau-spec : {M : Type 1} → statement M
-check-tau-spec = tie.close (tie.spec is-finite-requires returns returns-2)
+pub check_tau_spec : {M : Type 1} → statement M
+check_tau_spec = tie.close (tie.spec is-finite-requires returns returns-2)

@@ -7,32 +7,31 @@ use Rattle.magnus_graph_faults.specs.StepChecks.{sample_fault, samples_fault}
 use Rattle.magnus_graph_step_checks.proofs.check_samples.Statement.{statement}
 use Rattle.magnus_graph_step_checks.proofs.check_samples.Tie as tie
 
-from-csr-parts-requires : tie.Need-from-csr-parts-requires
+from-csr-parts-requires : tie.Need-from_csr_parts-first-requires
 from-csr-parts-requires c κs = search rules
 
-enum_told : tie.Need-enum-told
+enum_told : tie.Need-enum_told-1
 enum_told c = search rules
 
-enum-told-2 : tie.Need-enum-told-2
+enum-told-2 : tie.Need-enum_told-in_default
 enum-told-2 c = search rules
 
-returns : tie.Need-returns
+returns : tie.Need-returns-in_default
 unfolding samples_fault sample_fault
 returns c =
-    refused-here _ _ _ _ (fault-is c.before.before.from-csr-parts.ensures) c.enum-told2.given.1
+    refused-here _ _ _ _ (fault-is c.from_csr_parts-first.ensures) c.in_default.is
 
-from-csr-parts-requires-2 : tie.Need-from-csr-parts-requires-2
+from-csr-parts-requires-2 : tie.Need-from_csr_parts-requires
 from-csr-parts-requires-2 c κs = search rules
 
-returns-2 : tie.Need-returns-2
+returns-2 : tie.Need-returns
 unfolding samples_fault sample_fault
 returns-2 c =
-    let first = c.before in
-    accepted-then _ _ _ _ (fault-is first.before.before.from-csr-parts.ensures) first.enum_told.given.1
-    (fault-is c.from-csr-parts2.ensures)
+    accepted-then _ _ _ _ (fault-is c.from_csr_parts-first.ensures) c.in-Accepted.is
+    (fault-is c.from_csr_parts.ensures)
 
-pub check-samples-spec : {M : Type 1} → statement M
-check-samples-spec =
+pub check_samples_spec : {M : Type 1} → statement M
+check_samples_spec =
     tie.close
     (tie.spec
     from-csr-parts-requires

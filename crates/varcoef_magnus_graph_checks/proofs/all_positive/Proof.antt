@@ -17,48 +17,48 @@ use Rattle.varcoef_magnus_graph_checks.proofs.all_positive.Tie as tie
 abbrev passes : Float → Bool
 passes w = not (not_positive w)
 
-abbrev invariant-loop : tie.invariant-loop
-invariant-loop weights passed₀ k₀ k-end passed k = (k ≤ length weights) × (passed ≡ all passes (take k weights))
+abbrev invariant-loop-k : tie.invariant-loop-k
+invariant-loop-k weights passed₀ k₀ k-end passed k = (k ≤ length weights) × (passed ≡ all passes (take k weights))
 
-abbrev decreases-loop : tie.decreases-loop
-decreases-loop weights passed₀ k₀ k-end passed k = length weights - k
+abbrev decreases-loop-k : tie.decreases-loop-k
+decreases-loop-k weights passed₀ k₀ k-end passed k = length weights - k
 
-loop-holds : tie.Need-loop-init invariant-loop decreases-loop
+loop-holds : tie.Need-loop-k-init invariant-loop-k decreases-loop-k
 loop-holds c = (omega arith, all-of-none passes)
 
-mul-is-positive : tie.Need-overflow-mul-is-positive invariant-loop decreases-loop
+mul-is-positive : tie.Need-offset_bounds-weights-k invariant-loop-k decreases-loop-k
 mul-is-positive c =
-    let h : c.before.loop.k < length c.before.before.before.args.weights.now = c.loop-test.true in
+    let h : c.loop-k.k < length c.args.weights.now = c.loop-k-test.true in
     search rules
 
-shared-slice-read-is-positive : tie.Need-shared-slice-read-is-positive invariant-loop decreases-loop
+shared-slice-read-is-positive : tie.Need-bounds-weights-k invariant-loop-k decreases-loop-k
 shared-slice-read-is-positive c = omega arith
 
-is-positive-requires : tie.Need-is-positive-requires invariant-loop decreases-loop
+is-positive-requires : tie.Need-is_positive-passed-requires invariant-loop-k decreases-loop-k
 is-positive-requires c κs = search rules
 
-add-k : tie.Need-overflow-add-k invariant-loop decreases-loop
+add-k : tie.Need-overflow_step-k invariant-loop-k decreases-loop-k
 add-k c = omega arith
 
-loop-less : tie.Need-loop-smaller invariant-loop decreases-loop
+loop-less : tie.Need-loop-k-smaller invariant-loop-k decreases-loop-k
 loop-less c = omega arith
 
-loop-again : tie.Need-loop-preserved invariant-loop decreases-loop
+loop-again : tie.Need-loop-k-preserved invariant-loop-k decreases-loop-k
 loop-again c = (
   omega arith,
-  all_more passes _ nan _ _ _ c.before.before.loop-test.true c.before.before.before.loop.invariant.1
-      c.is_positive.ensures,
+  all_more passes _ nan _ _ _ c.loop-k-test.true c.loop-k.invariant.1
+      c.is_positive-passed.ensures,
 )
 
-returns : tie.Need-returns invariant-loop decreases-loop
-returns c = all-passed passes _ _ _ c.loop-test.false c.before.loop.invariant.1
+returns : tie.Need-returns invariant-loop-k decreases-loop-k
+returns c = all-passed passes _ _ _ c.loop-k-test.false c.loop-k.invariant.1
 
-pub all-positive-spec : {M : Type 1} → statement M
-all-positive-spec =
+pub all_positive_spec : {M : Type 1} → statement M
+all_positive_spec =
     tie.close
     (tie.spec
-    invariant-loop
-    decreases-loop
+    invariant-loop-k
+    decreases-loop-k
     loop-holds
     mul-is-positive
     shared-slice-read-is-positive

@@ -23,34 +23,34 @@ module _ (weights : List Float) (b : Bool) (quick : b ≡ all (λ w. not (not_po
   found : b ≡ false → (k : ℕ) → k ≡ first (not_positive_at weights) (length weights) → k < length weights
   found = some-fails (λ w. not (not_positive w)) weights nan (not_positive_at weights) (λ k. sym (not-not _)) b quick
 
-all-positive-requires : tie.Need-all-positive-requires
+all-positive-requires : tie.Need-all_positive-requires
 all-positive-requires c κs = search rules
 
-returns : tie.Need-returns
+returns : tie.Need-returns-then-all_positive
 unfolding sample_weights_fault
-returns c = accepts-none _ _ _ (none_found _ _ c.before.all-positive.ensures c.if1.true)
+returns c = accepts-none _ _ _ (none_found _ _ c.all_positive.ensures c.if-all_positive.true)
 
-first-not-positive-requires : tie.Need-first-not-positive-requires
+first-not-positive-requires : tie.Need-first_not_positive-k-requires
 first-not-positive-requires c κs = search rules
 
 -- the walk's answer is a place of the list
-within : (c : tie.After-first-not-positive)
-    → c.first-not-positive.result < length c.before.before.before.before.args.weights.now
+within : (c : tie.After-first_not_positive-k)
+    → c.first_not_positive-k.result < length c.args.weights.now
 within c =
-    found _ _ c.before.before.all-positive.ensures c.before.if1.false _ c.first-not-positive.ensures
+    found _ _ c.all_positive.ensures c.if-all_positive.false _ c.first_not_positive-k.ensures
 
-mul-t4 : tie.Need-overflow-mul-t4
+mul-t4 : tie.Need-offset_bounds-weights-k
 mul-t4 c = let h = within c in search rules
 
-shared-slice-read-t6 : tie.Need-shared-slice-read-t6
+shared-slice-read-t6 : tie.Need-bounds-weights-k
 shared-slice-read-t6 c = within c.before
 
-returns-2 : tie.Need-returns-2
+returns-2 : tie.Need-returns
 unfolding sample_weights_fault
-returns-2 c = refuses-first _ _ _ _ (within c.before) c.before.first-not-positive.ensures
+returns-2 c = refuses-first _ _ _ _ (within c.before) c.first_not_positive-k.ensures
 
-pub check-sample-weights-spec : {M : Type 1} → statement M
-check-sample-weights-spec =
+pub check_sample_weights_spec : {M : Type 1} → statement M
+check_sample_weights_spec =
     tie.close
     (tie.spec
     all-positive-requires

@@ -17,17 +17,17 @@ use Rattle.varcoef_magnus_graph_checks.proofs.check_weights_length.Tie as tie
 named : (t : Bool) (l larger : ℕ) → larger ≡ l → t ≡ true → Refused (Length l) ≡ refuse_if t (Length larger)
 named t l larger e p = ap (λ (k : ℕ). Refused (Length k)) (sym e) ∙ refuses t (Length larger) p
 
-returns : tie.Need-returns
+returns : tie.Need-returns-then-first-n
 unfolding weights_length_fault
-returns c = accepts _ _ (ap not c.if1.true)
+returns c = accepts _ _ (ap not c.if-first-n.true)
 
-returns-2 : tie.Need-returns-2
+returns-2 : tie.Need-returns-then-first-second
 unfolding weights_length_fault
-returns-2 c = named _ _ _ (max-eq_right (omega arith)) (ap not c.before.if1.false)
+returns-2 c = named _ _ _ (max-eq_right (omega arith)) (ap not c.if-first-n.false)
 
-returns-3 : tie.Need-returns-3
+returns-3 : tie.Need-returns-else-first-second
 unfolding weights_length_fault
-returns-3 c = named _ _ _ (max-eq_left (omega arith)) (ap not c.before.if1.false)
+returns-3 c = named _ _ _ (max-eq_left (omega arith)) (ap not c.if-first-n.false)
 
-pub check-weights-length-spec : {M : Type 1} → statement M
-check-weights-length-spec = tie.close (tie.spec returns returns-2 returns-3)
+pub check_weights_length_spec : {M : Type 1} → statement M
+check_weights_length_spec = tie.close (tie.spec returns returns-2 returns-3)

@@ -8,122 +8,118 @@ use Rattle.graph_pairs.proofs.Turns.{Forming, forming-none, forming-all, x1, x2,
 use Rattle.graph_pair_products.proofs.kernel.omega_in.Statement.{statement}
 use Rattle.graph_pair_products.proofs.kernel.omega_in.Tie as tie
 
-abbrev invariant-loop : tie.invariant-loop
-invariant-loop row-ptr col-idx work₀ n values source target scale comm-scale values-end source-end i₀ work i =
+abbrev invariant-loop-i : tie.invariant-loop-i
+invariant-loop-i row-ptr col-idx work₀ n values source target scale comm-scale values-end source-end i₀ work i =
     let x1 = x1 n row-ptr col-idx values source target work₀ in
     let x2 = x2 n row-ptr col-idx values source target work₀ in
     Forming n row-ptr col-idx x1 x2 source target scale comm-scale work₀ i work
 
-abbrev decreases-loop : tie.decreases-loop
-decreases-loop row-ptr col-idx work₀ n values source target scale comm-scale values-end source-end i₀ work i =
+abbrev decreases-loop-i : tie.decreases-loop-i
+decreases-loop-i row-ptr col-idx work₀ n values source target scale comm-scale values-end source-end i₀ work i =
     n - i
 
-mul-values-end : tie.Need-overflow-mul-values-end invariant-loop decreases-loop
+mul-values-end : tie.Need-overflow_mul-values_end invariant-loop-i decreases-loop-i
 mul-values-end c = omega arith
 
-add-values-end : tie.Need-overflow-add-values-end invariant-loop decreases-loop
+add-values-end : tie.Need-overflow_add-values_end invariant-loop-i decreases-loop-i
 add-values-end c = omega arith
 
-mul-source-end : tie.Need-overflow-mul-source-end invariant-loop decreases-loop
+mul-source-end : tie.Need-overflow_mul-source_end invariant-loop-i decreases-loop-i
 mul-source-end c = omega arith
 
-add-source-end : tie.Need-overflow-add-source-end invariant-loop decreases-loop
+add-source-end : tie.Need-overflow_add-source_end invariant-loop-i decreases-loop-i
 add-source-end c = omega arith
 
-loop-holds : tie.Need-loop-init invariant-loop decreases-loop
+loop-holds : tie.Need-loop-i-init invariant-loop-i decreases-loop-i
 loop-holds c = forming-none _ _ _ _ _ _ _ _ _ _
 
-mul-row-sums-of-two : tie.Need-overflow-mul-row-sums-of-two invariant-loop decreases-loop
+mul-row-sums-of-two : tie.Need-offset_bounds-work-values invariant-loop-i decreases-loop-i
 mul-row-sums-of-two c = omega arith
 
-sub-row-sums-of-two : tie.Need-overflow-sub-row-sums-of-two invariant-loop decreases-loop
+sub-row-sums-of-two : tie.Need-slice_bounds-row_sums_of_two-count invariant-loop-i decreases-loop-i
 sub-row-sums-of-two c = omega arith
 
-part-row-sums-of-two-start : tie.Need-slice-bounds-row-sums-of-two-start invariant-loop decreases-loop
+part-row-sums-of-two-start : tie.Need-slice_bounds-row_sums_of_two-start invariant-loop-i decreases-loop-i
 part-row-sums-of-two-start c = omega arith
 
-part-row-sums-of-two-end : tie.Need-slice-bounds-row-sums-of-two-end invariant-loop decreases-loop
+part-row-sums-of-two-end : tie.Need-slice_bounds-row_sums_of_two-end invariant-loop-i decreases-loop-i
 part-row-sums-of-two-end c = omega arith
 
-mul-row-sums-of-two-2 : tie.Need-overflow-mul-row-sums-of-two-2 invariant-loop decreases-loop
+mul-row-sums-of-two-2 : tie.Need-offset_bounds-work-source invariant-loop-i decreases-loop-i
 mul-row-sums-of-two-2 c = omega arith
 
-sub-row-sums-of-two-2 : tie.Need-overflow-sub-row-sums-of-two-2 invariant-loop decreases-loop
+sub-row-sums-of-two-2 : tie.Need-slice_bounds-row_sums_of_two-count-in-loop-i invariant-loop-i decreases-loop-i
 sub-row-sums-of-two-2 c = omega arith
 
-part-row-sums-of-two-start-2 : tie.Need-slice-bounds-row-sums-of-two-start-2 invariant-loop decreases-loop
+part-row-sums-of-two-start-2 : tie.Need-slice_bounds-row_sums_of_two-start-in-loop-i invariant-loop-i decreases-loop-i
 part-row-sums-of-two-start-2 c = omega arith
 
-part-row-sums-of-two-end-2 : tie.Need-slice-bounds-row-sums-of-two-end-2 invariant-loop decreases-loop
+part-row-sums-of-two-end-2 : tie.Need-slice_bounds-row_sums_of_two-end-in-loop-i invariant-loop-i decreases-loop-i
 part-row-sums-of-two-end-2 c = omega arith
 
-row-sums-of-two-requires : tie.Need-row-sums-of-two-requires invariant-loop decreases-loop
+row-sums-of-two-requires : tie.Need-row_sums_of_two-sums-requires invariant-loop-i decreases-loop-i
 row-sums-of-two-requires c κs =
-    let head = c.before.before.before.before in
-    let start = c.before.before.before.before.before.before.before.before in
-    let work = head.loop.work in
-    let pairs = length-lent-part start.args.source (2 * start.args.n) work (omega arith) in
-    let values = length-lent-part start.args.values (2 * length start.args.col-idx.now) work (omega arith) in
-    (start.requires.0, ((values, pairs), c.before.before.before.loop-test.true))
+    let work = c.loop-i.work in
+    let pairs = length-lent-part c.args.source (2 * c.args.n) work (omega arith) in
+    let values = length-lent-part c.args.values (2 * length c.args.col_idx.now) work (omega arith) in
+    (c.requires.0, ((values, pairs), c.loop-i-test.true))
 
-mul-s : tie.Need-overflow-mul-s invariant-loop decreases-loop
+mul-s : tie.Need-overflow_mul-s invariant-loop-i decreases-loop-i
 mul-s c = omega arith
 
-add-s : tie.Need-overflow-add-s invariant-loop decreases-loop
+add-s : tie.Need-overflow_add-s invariant-loop-i decreases-loop-i
 add-s c = omega arith
 
-mul-b : tie.Need-overflow-mul-b invariant-loop decreases-loop
+mul-b : tie.Need-offset_bounds-work-s invariant-loop-i decreases-loop-i
 mul-b c = omega arith
 
-slice-read-b : tie.Need-slice-read-b invariant-loop decreases-loop
+slice-read-b : tie.Need-bounds-work-s invariant-loop-i decreases-loop-i
 slice-read-b c = omega arith
 
-add_a : tie.Need-overflow-add-a invariant-loop decreases-loop
+add_a : tie.Need-overflow_add-a invariant-loop-i decreases-loop-i
 add_a c = omega arith
 
-mul-a : tie.Need-overflow-mul-a invariant-loop decreases-loop
+mul-a : tie.Need-offset_bounds-work-s-in-loop-i invariant-loop-i decreases-loop-i
 mul-a c = omega arith
 
-slice-read-a : tie.Need-slice-read-a invariant-loop decreases-loop
+slice-read-a : tie.Need-bounds-work-s-in-loop-i invariant-loop-i decreases-loop-i
 slice-read-a c = omega arith
 
-add-work : tie.Need-overflow-add-work invariant-loop decreases-loop
+add-work : tie.Need-overflow_add-work invariant-loop-i decreases-loop-i
 add-work c = omega arith
 
-mul-work : tie.Need-overflow-mul-work invariant-loop decreases-loop
+mul-work : tie.Need-offset_bounds-work-target invariant-loop-i decreases-loop-i
 mul-work c = omega arith
 
-slice-write-work : tie.Need-slice-write-work invariant-loop decreases-loop
+slice-write-work : tie.Need-bounds-work-target invariant-loop-i decreases-loop-i
 slice-write-work c = omega arith
 
-add-i : tie.Need-overflow-add-i invariant-loop decreases-loop
+add-i : tie.Need-overflow_step-i invariant-loop-i decreases-loop-i
 add-i c = omega arith
 
-loop-less : tie.Need-loop-smaller invariant-loop decreases-loop
+loop-less : tie.Need-loop-i-smaller invariant-loop-i decreases-loop-i
 loop-less c = omega arith
 
-loop-again : tie.Need-loop-preserved invariant-loop decreases-loop
+loop-again : tie.Need-loop-i-preserved invariant-loop-i decreases-loop-i
 loop-again c =
-    let head = c.before.before.before.before.before.before.before.before in
-    let start = head.before.before.before.before in
-    let args = start.args in
-    forming-next-lent args.n args.row-ptr.now args.col-idx.now args.values args.source args.target args.work.now
-    start.requires.1 head.loop.invariant c.before.before.before.before.before.before.before.loop-test.true
-    c.before.before.before.row-sums-of-two.ensures
+    let args = c.args in
+    forming-next-lent args.n args.row_ptr.now args.col_idx.now args.values args.source args.target args.work.now
+    c.requires.1 c.loop-i.invariant c.loop-i-test.true
+    c.row_sums_of_two-sums.ensures
 
-same_length : tie.Need-same-length invariant-loop decreases-loop
-same_length c = c.before.loop.invariant.written.length-kept
+same_length : tie.Need-shape_of-work invariant-loop-i decreases-loop-i
+same_length c = c.loop-i.invariant.written.length-kept
 
-returns : tie.Need-returns invariant-loop decreases-loop
+returns : tie.Need-returns invariant-loop-i decreases-loop-i
 returns c =
-    forming-all _ _ _ _ _ _ _ _ _ _ c.before.loop.invariant c.loop-test.false
+    forming-all _ _ _ _ _ _ _ _ _ _ c.loop-i.invariant c.loop-i-test.false
 
-pub omega-in-spec : {M : Type 1} → statement M
-omega-in-spec =
+pub omega_in_spec : {M : Type 1} → statement M
+omega_in_spec =
     tie.close
     (tie.spec
-    invariant-loop
-    decreases-loop
+    invariant-loop-i
+    decreases-loop-i
     mul-values-end
     add-values-end
     mul-source-end

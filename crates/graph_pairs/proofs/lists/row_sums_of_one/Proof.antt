@@ -12,114 +12,105 @@ use Rattle.graph_pairs.proofs.Pairs.{entry_here, with-entry, with-two-entries}
 use Rattle.graph_pairs.proofs.lists.row_sums_of_one.Statement.{statement}
 use Rattle.graph_pairs.proofs.lists.row_sums_of_one.Tie as tie
 
-abbrev invariant-loop : tie.invariant-loop
-invariant-loop row-ptr col-idx vals1 vals2 src i end k₀ sums₀ k sums =
+abbrev invariant-loop-k : tie.invariant-loop-k
+invariant-loop-k row-ptr col-idx vals1 vals2 src i end k₀ sums₀ k sums =
     (k₀ ≤ k)
     × (k ≤ end)
     × (sums.first ≡ entries (ieee binary64) col-idx vals1 src k₀ k)
     × (sums.second ≡ entries (ieee binary64) col-idx vals2 src k₀ k)
 
-abbrev decreases-loop : tie.decreases-loop
-decreases-loop row-ptr col-idx vals1 vals2 src i end k₀ sums₀ k sums = end - k
+abbrev decreases-loop-k : tie.decreases-loop-k
+decreases-loop-k row-ptr col-idx vals1 vals2 src i end k₀ sums₀ k sums = end - k
 
-add-end : tie.Need-overflow-add-end invariant-loop decreases-loop
+add-end : tie.Need-overflow_add-end invariant-loop-k decreases-loop-k
 add-end c = omega arith
 
-mul-end : tie.Need-overflow-mul-end invariant-loop decreases-loop
+mul-end : tie.Need-offset_bounds-row_ptr-i invariant-loop-k decreases-loop-k
 mul-end c = omega arith
 
-shared-slice-read-end : tie.Need-shared-slice-read-end invariant-loop decreases-loop
+shared-slice-read-end : tie.Need-bounds-row_ptr-i invariant-loop-k decreases-loop-k
 shared-slice-read-end c = omega arith
 
-mul-k : tie.Need-overflow-mul-k invariant-loop decreases-loop
+mul-k : tie.Need-offset_bounds-row_ptr-i-2 invariant-loop-k decreases-loop-k
 mul-k c = omega arith
 
-shared-slice-read-k : tie.Need-shared-slice-read-k invariant-loop decreases-loop
+shared-slice-read-k : tie.Need-bounds-row_ptr-i-2 invariant-loop-k decreases-loop-k
 shared-slice-read-k c = omega arith
 
-loop-holds : tie.Need-loop-init invariant-loop decreases-loop
+loop-holds : tie.Need-loop-k-init invariant-loop-k decreases-loop-k
 loop-holds c =
-    let start = c.before.before.before.before.before.before.before in
-    let rising = start.requires.0.pattern.rows.rising start.args.i start.requires.1.1 in
+    let rising = c.requires.0.pattern.rows.rising c.args.i c.requires.1.1 in
     (omega arith, rising, sym (entries_none (ieee binary64) _ _ _ _), sym (entries_none (ieee binary64) _ _ _ _))
 
-add-loop : tie.Need-overflow-add-loop invariant-loop decreases-loop
+add-loop : tie.Need-overflow_add-k invariant-loop-k decreases-loop-k
 add-loop c =
-    let start = c.before.before.before.before.before.before.before.before in
-    omega (arith, start.requires.0.pattern.rows.within (start.args.i + 1) (omega arith))
+    omega (arith, c.requires.0.pattern.rows.within (c.args.i + 1) (omega arith))
 
-with-entry-of-one-requires : tie.Need-with-entry-of-one-requires invariant-loop decreases-loop
+with-entry-of-one-requires : tie.Need-with_entry_of_one-next-requires invariant-loop-k decreases-loop-k
 with-entry-of-one-requires c κs =
-    let start = c.before.before.before.before.before.before.before.before.before in
-    let k = c.before.loop.k in
-    let here : k < get_or start.args.row-ptr.now (start.args.i + 1) 0 = omega arith in
-    ((start.requires.0.count, start.requires.1.0), entry_here start.requires.0.pattern start.args.i k start.requires.1.1 here)
+    let k = c.loop-k.k in
+    let here : k < get_or c.args.row_ptr.now (c.args.i + 1) 0 = omega arith in
+    ((c.requires.0.count, c.requires.1.0), entry_here c.requires.0.pattern c.args.i k c.requires.1.1 here)
 
-add-with-entry-of-one : tie.Need-overflow-add-with-entry-of-one invariant-loop decreases-loop
+add-with-entry-of-one : tie.Need-overflow_add-k-in-loop-k invariant-loop-k decreases-loop-k
 add-with-entry-of-one c =
-    let start = c.before.before.before.before.before.before.before.before.before.before in
-    omega (arith, start.requires.0.pattern.rows.within (start.args.i + 1) (omega arith))
+    omega (arith, c.requires.0.pattern.rows.within (c.args.i + 1) (omega arith))
 
-with-entry-of-one-requires-2 : tie.Need-with-entry-of-one-requires-2 invariant-loop decreases-loop
+with-entry-of-one-requires-2 : tie.Need-with_entry_of_one-sums-requires invariant-loop-k decreases-loop-k
 with-entry-of-one-requires-2 c κs =
-    let start = c.before.before.before.before.before.before.before.before.before.before in
-    let k = c.before.before.loop.k + 1 in
-    let here : k < get_or start.args.row-ptr.now (start.args.i + 1) 0 = omega arith in
-    ((start.requires.0.count, start.requires.1.0), entry_here start.requires.0.pattern start.args.i k start.requires.1.1 here)
+    let k = c.loop-k.k + 1 in
+    let here : k < get_or c.args.row_ptr.now (c.args.i + 1) 0 = omega arith in
+    ((c.requires.0.count, c.requires.1.0), entry_here c.requires.0.pattern c.args.i k c.requires.1.1 here)
 
-add-k : tie.Need-overflow-add-k invariant-loop decreases-loop
+add-k : tie.Need-overflow_add-k-in-loop-k-2 invariant-loop-k decreases-loop-k
 add-k c =
-    let start = c.before.before.before.before.before.before.before.before.before.before.before in
-    omega (arith, start.requires.0.pattern.rows.within (start.args.i + 1) (omega arith))
+    omega (arith, c.requires.0.pattern.rows.within (c.args.i + 1) (omega arith))
 
-loop-less : tie.Need-loop-smaller invariant-loop decreases-loop
+loop-less : tie.Need-loop-k-smaller invariant-loop-k decreases-loop-k
 loop-less c = omega arith
 
-loop-again : tie.Need-loop-preserved invariant-loop decreases-loop
+loop-again : tie.Need-loop-k-preserved invariant-loop-k decreases-loop-k
 loop-again c =
-    let loop = c.before.before.before.loop in
-    let one = c.before.with-entry-of-one.ensures in
-    let two = c.with-entry-of-one2.ensures in (
+    let loop = c.loop-k in
+    let one = c.with_entry_of_one-next.ensures in
+    let two = c.with_entry_of_one-sums.ensures in (
       omega arith,
       omega arith,
       with-two-entries (ieee binary64) _ _ _ _ _ loop.invariant.0 loop.invariant.2 one.0 two.0,
       with-two-entries (ieee binary64) _ _ _ _ _ loop.invariant.0 loop.invariant.3 one.1 two.1,
     )
 
-with-entry-of-one-requires-3 : tie.Need-with-entry-of-one-requires-3 invariant-loop decreases-loop
+with-entry-of-one-requires-3 : tie.Need-with_entry_of_one-sums-requires-then-k-end invariant-loop-k decreases-loop-k
 with-entry-of-one-requires-3 c κs =
-    let start = c.before.before.before.before.before.before.before.before.before.before in
-    let k = c.before.before.loop.k in
-    let here : k < get_or start.args.row-ptr.now (start.args.i + 1) 0 = omega arith in
-    ((start.requires.0.count, start.requires.1.0), entry_here start.requires.0.pattern start.args.i k start.requires.1.1 here)
+    let k = c.loop-k.k in
+    let here : k < get_or c.args.row_ptr.now (c.args.i + 1) 0 = omega arith in
+    ((c.requires.0.count, c.requires.1.0), entry_here c.requires.0.pattern c.args.i k c.requires.1.1 here)
 
-returns : tie.Need-returns invariant-loop decreases-loop
+returns : tie.Need-returns-then-k-end invariant-loop-k decreases-loop-k
 unfolding row_sum
 returns c =
-    let loop = c.before.before.before.loop in
-    let start = c.before.before.before.before.before.before.before.before.before.before.before in
-    let last : loop.k + 1 ≡ get_or start.args.row-ptr.now (start.args.i + 1) 0 = omega arith in
-    let one = c.with-entry-of-one3.ensures in (
+    let loop = c.loop-k in
+    let last : loop.k + 1 ≡ get_or c.args.row_ptr.now (c.args.i + 1) 0 = omega arith in
+    let one = c.with_entry_of_one-sums-then-k-end.ensures in (
       with-entry (ieee binary64) _ _ _ _ _ loop.invariant.0 loop.invariant.2 one.0 ∙ ap (entries (ieee binary64) _ _ _ _) last,
       with-entry (ieee binary64) _ _ _ _ _ loop.invariant.0 loop.invariant.3 one.1 ∙ ap (entries (ieee binary64) _ _ _ _) last,
     )
 
-returns-2 : tie.Need-returns-2 invariant-loop decreases-loop
+returns-2 : tie.Need-returns-else-k-end invariant-loop-k decreases-loop-k
 unfolding row_sum
 returns-2 c =
-    let loop = c.before.before.loop in
-    let start = c.before.before.before.before.before.before.before.before.before.before in
-    let last : loop.k ≡ get_or start.args.row-ptr.now (start.args.i + 1) 0 = omega arith in (
+    let loop = c.loop-k in
+    let last : loop.k ≡ get_or c.args.row_ptr.now (c.args.i + 1) 0 = omega arith in (
       loop.invariant.2 ∙ ap (entries (ieee binary64) _ _ _ _) last,
       loop.invariant.3 ∙ ap (entries (ieee binary64) _ _ _ _) last,
     )
 
-pub row-sums-of-one-spec : {M : Type 1} → statement M
-row-sums-of-one-spec =
+pub row_sums_of_one_spec : {M : Type 1} → statement M
+row_sums_of_one_spec =
     tie.close
     (tie.spec
-    invariant-loop
-    decreases-loop
+    invariant-loop-k
+    decreases-loop-k
     add-end
     mul-end
     shared-slice-read-end

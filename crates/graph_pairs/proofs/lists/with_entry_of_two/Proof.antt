@@ -8,62 +8,61 @@ use Rattle.graph_pairs.proofs.Pairs.{at-firsts, at-seconds, entry_read}
 use Rattle.graph_pairs.proofs.lists.with_entry_of_two.Statement.{statement}
 use Rattle.graph_pairs.proofs.lists.with_entry_of_two.Tie as tie
 
-mul-c : tie.Need-overflow-mul-c
+mul-c : tie.Need-offset_bounds-col_idx-k
 mul-c c = omega arith
 
-shared-slice-read-c : tie.Need-shared-slice-read-c
+shared-slice-read-c : tie.Need-bounds-col_idx-k
 shared-slice-read-c c = omega arith
 
-cast-c : tie.Need-overflow-cast-c
+cast-c : tie.Need-overflow_cast-c
 cast-c c = omega arith
 
-mul-first : tie.Need-overflow-mul-first
+mul-first : tie.Need-offset_bounds-vals1-k
 mul-first c = omega arith
 
-shared-slice-read-first : tie.Need-shared-slice-read-first
+shared-slice-read-first : tie.Need-bounds-vals1-k
 shared-slice-read-first c = omega arith
 
-mul-first-2 : tie.Need-overflow-mul-first-2
+mul-first-2 : tie.Need-overflow_mul-first
 mul-first-2 c = omega arith
 
-mul-first-3 : tie.Need-overflow-mul-first-3
+mul-first-3 : tie.Need-offset_bounds-src-c
 mul-first-3 c = omega arith
 
-shared-slice-read-first-2 : tie.Need-shared-slice-read-first-2
+shared-slice-read-first-2 : tie.Need-bounds-src-c
 shared-slice-read-first-2 c = omega arith
 
-mul-second : tie.Need-overflow-mul-second
+mul-second : tie.Need-offset_bounds-vals2-k
 mul-second c = omega arith
 
-shared-slice-read-second : tie.Need-shared-slice-read-second
+shared-slice-read-second : tie.Need-bounds-vals2-k
 shared-slice-read-second c = omega arith
 
-mul-second-2 : tie.Need-overflow-mul-second-2
+mul-second-2 : tie.Need-overflow_mul-second
 mul-second-2 c = omega arith
 
-add-second : tie.Need-overflow-add-second
+add-second : tie.Need-overflow_add-second
 add-second c = omega arith
 
-mul-second-3 : tie.Need-overflow-mul-second-3
+mul-second-3 : tie.Need-offset_bounds-src-c-2
 mul-second-3 c = omega arith
 
-shared-slice-read-second-2 : tie.Need-shared-slice-read-second-2
+shared-slice-read-second-2 : tie.Need-bounds-src-c-2
 shared-slice-read-second-2 c = omega arith
 
 returns : tie.Need-returns
 returns c =
-    let start = c.before.before.before.before.before.before.before in
-    let cols = start.args.col-idx.now in
-    let src = start.args.src.now in
-    let column = start.requires.1.2 in (
-      entry_read (ieee binary64) cols start.args.k start.args.vals1.now (firsts (ieee binary64) start.args.n src) _ refl
+    let cols = c.args.col_idx.now in
+    let src = c.args.src.now in
+    let column = c.requires.1.2 in (
+      entry_read (ieee binary64) cols c.args.k c.args.vals1.now (firsts (ieee binary64) c.args.n src) _ refl
           (sym (at-firsts (ieee binary64) _ src _ column)),
-      entry_read (ieee binary64) cols start.args.k start.args.vals2.now (seconds (ieee binary64) start.args.n src) _ refl
+      entry_read (ieee binary64) cols c.args.k c.args.vals2.now (seconds (ieee binary64) c.args.n src) _ refl
           (sym (at-seconds (ieee binary64) _ src _ column)),
     )
 
-pub with-entry-of-two-spec : {M : Type 1} → statement M
-with-entry-of-two-spec =
+pub with_entry_of_two_spec : {M : Type 1} → statement M
+with_entry_of_two_spec =
     tie.close
     (tie.spec
     mul-c

@@ -11,166 +11,150 @@ use Rattle.graph_scratch.proofs.WorkSlice.{lent-part, length-lent-part}
 use Rattle.graph_scratch.proofs.kernel.product_in.Statement.{statement}
 use Rattle.graph_scratch.proofs.kernel.product_in.Tie as tie
 
-abbrev invariant-loop : tie.invariant-loop
-invariant-loop row-ptr col-idx vals work₀ n source target source-end i₀ work i = Written target (row_sum64 row-ptr col-idx vals (part source n work₀)) n work₀ i work
+abbrev invariant-loop-i : tie.invariant-loop-i
+invariant-loop-i row-ptr col-idx vals work₀ n source target source-end i₀ work i = Written target (row_sum64 row-ptr col-idx vals (part source n work₀)) n work₀ i work
 
-abbrev decreases-loop : tie.decreases-loop
-decreases-loop row-ptr col-idx vals work₀ n source target source-end i₀ work i = n - i
+abbrev decreases-loop-i : tie.decreases-loop-i
+decreases-loop-i row-ptr col-idx vals work₀ n source target source-end i₀ work i = n - i
 
-add-source-end : tie.Need-overflow-add-source-end invariant-loop decreases-loop
+add-source-end : tie.Need-overflow_add-source_end invariant-loop-i decreases-loop-i
 add-source-end c = omega arith
 
-loop-holds : tie.Need-loop-init invariant-loop decreases-loop
+loop-holds : tie.Need-loop-i-init invariant-loop-i decreases-loop-i
 loop-holds c = written_none _ _ _ _
 
-add-loop : tie.Need-overflow-add-loop invariant-loop decreases-loop
+add-loop : tie.Need-overflow_add-i invariant-loop-i decreases-loop-i
 add-loop c = omega arith
 
-mul-row-sum : tie.Need-overflow-mul-row-sum invariant-loop decreases-loop
+mul-row-sum : tie.Need-offset_bounds-work-source invariant-loop-i decreases-loop-i
 mul-row-sum c = omega arith
 
-sub-row-sum : tie.Need-overflow-sub-row-sum invariant-loop decreases-loop
+sub-row-sum : tie.Need-slice_bounds-row_sum-count invariant-loop-i decreases-loop-i
 sub-row-sum c = omega arith
 
-part-row-sum-start : tie.Need-slice-bounds-row-sum-start invariant-loop decreases-loop
+part-row-sum-start : tie.Need-slice_bounds-row_sum-start invariant-loop-i decreases-loop-i
 part-row-sum-start c = omega arith
 
-part-row-sum-end : tie.Need-slice-bounds-row-sum-end invariant-loop decreases-loop
+part-row-sum-end : tie.Need-slice_bounds-row_sum-end invariant-loop-i decreases-loop-i
 part-row-sum-end c = omega arith
 
-row-sum-requires : tie.Need-row-sum-requires invariant-loop decreases-loop
+row-sum-requires : tie.Need-row_sum-acc-requires invariant-loop-i decreases-loop-i
 row-sum-requires c κs =
-    let head = c.before.before.before in
-    let start = head.before.before.before.before.before in
-    let lent = length-lent-part start.args.source start.args.n head.loop.work (omega arith) in
-    rw lent (start.requires.0, (start.requires.1.0, omega arith))
+    let lent = length-lent-part c.args.source c.args.n c.loop-i.work (omega arith) in
+    rw lent (c.requires.0, (c.requires.1.0, omega arith))
 
-mul-row-sum-2 : tie.Need-overflow-mul-row-sum-2 invariant-loop decreases-loop
+mul-row-sum-2 : tie.Need-offset_bounds-work-source-in-loop-i invariant-loop-i decreases-loop-i
 mul-row-sum-2 c = omega arith
 
-sub-row-sum-2 : tie.Need-overflow-sub-row-sum-2 invariant-loop decreases-loop
+sub-row-sum-2 : tie.Need-slice_bounds-row_sum-count-in-loop-i invariant-loop-i decreases-loop-i
 sub-row-sum-2 c = omega arith
 
-part-row-sum-start-2 : tie.Need-slice-bounds-row-sum-start-2 invariant-loop decreases-loop
+part-row-sum-start-2 : tie.Need-slice_bounds-row_sum-start-in-loop-i invariant-loop-i decreases-loop-i
 part-row-sum-start-2 c = omega arith
 
-part-row-sum-end-2 : tie.Need-slice-bounds-row-sum-end-2 invariant-loop decreases-loop
+part-row-sum-end-2 : tie.Need-slice_bounds-row_sum-end-in-loop-i invariant-loop-i decreases-loop-i
 part-row-sum-end-2 c = omega arith
 
-add-row-sum : tie.Need-overflow-add-row-sum invariant-loop decreases-loop
+add-row-sum : tie.Need-overflow_add-i-in-loop-i invariant-loop-i decreases-loop-i
 add-row-sum c = omega arith
 
-row-sum-requires-2 : tie.Need-row-sum-requires-2 invariant-loop decreases-loop
+row-sum-requires-2 : tie.Need-row_sum-next-requires invariant-loop-i decreases-loop-i
 row-sum-requires-2 c κs =
-    let head = c.before.before.before.before.before.before in
-    let start = head.before.before.before.before.before in
-    let lent = length-lent-part start.args.source start.args.n head.loop.work (omega arith) in
-    rw lent (start.requires.0, (start.requires.1.0, omega arith))
+    let lent = length-lent-part c.args.source c.args.n c.loop-i.work (omega arith) in
+    rw lent (c.requires.0, (c.requires.1.0, omega arith))
 
-add-work : tie.Need-overflow-add-work invariant-loop decreases-loop
+add-work : tie.Need-overflow_add-work invariant-loop-i decreases-loop-i
 add-work c = omega arith
 
-mul-work : tie.Need-overflow-mul-work invariant-loop decreases-loop
+mul-work : tie.Need-offset_bounds-work-target invariant-loop-i decreases-loop-i
 mul-work c = omega arith
 
-slice-write-work : tie.Need-slice-write-work invariant-loop decreases-loop
+slice-write-work : tie.Need-bounds-work-target invariant-loop-i decreases-loop-i
 slice-write-work c = omega arith
 
-add-work-2 : tie.Need-overflow-add-work-2 invariant-loop decreases-loop
+add-work-2 : tie.Need-overflow_add-work-in-loop-i invariant-loop-i decreases-loop-i
 add-work-2 c = omega arith
 
-add-work-3 : tie.Need-overflow-add-work-3 invariant-loop decreases-loop
+add-work-3 : tie.Need-overflow_add-work-in-loop-i-2 invariant-loop-i decreases-loop-i
 add-work-3 c = omega arith
 
-mul-work-2 : tie.Need-overflow-mul-work-2 invariant-loop decreases-loop
+mul-work-2 : tie.Need-offset_bounds-work-target-in-loop-i invariant-loop-i decreases-loop-i
 mul-work-2 c = omega arith
 
-slice-write-work-2 : tie.Need-slice-write-work-2 invariant-loop decreases-loop
+slice-write-work-2 : tie.Need-bounds-work-target-in-loop-i invariant-loop-i decreases-loop-i
 slice-write-work-2 c = simp length-set (omega arith)
 
-add-i : tie.Need-overflow-add-i invariant-loop decreases-loop
+add-i : tie.Need-overflow_add-i-in-loop-i-2 invariant-loop-i decreases-loop-i
 add-i c = omega arith
 
-loop-less : tie.Need-loop-smaller invariant-loop decreases-loop
+loop-less : tie.Need-loop-i-smaller invariant-loop-i decreases-loop-i
 loop-less c = omega arith
 
-loop-again : tie.Need-loop-preserved invariant-loop decreases-loop
+loop-again : tie.Need-loop-i-preserved invariant-loop-i decreases-loop-i
 loop-again c =
-    let second = c in
-    let first = c.before.before.before in
-    let head = first.before.before.before.before in
-    let start = head.before.before.before.before.before in
-    let written = head.loop.invariant in
-    let source = part-kept written start.args.source start.requires.1.1.2 in
-    let i = head.loop.i in
-    let n = start.args.n in
+    let written = c.loop-i.invariant in
+    let source = part-kept written c.args.source c.requires.1.1.2 in
+    let i = c.loop-i.i in
+    let n = c.args.n in
     let left : i < n = omega arith in
     let left₂ : i + 1 < n = omega arith in
-    let one = written_next written left _ _ refl (rw (lent-part, source) at first.row-sum.ensures) in
-    let two = written_next one left₂ _ _ refl (rw (lent-part, source) at second.row-sum2.ensures) in
+    let one = written_next written left _ _ refl (rw (lent-part, source) at c.row_sum-acc.ensures) in
+    let two = written_next one left₂ _ _ refl (rw (lent-part, source) at c.row_sum-next.ensures) in
     let twice : i + 1 + 1 ≡ i + 2 = omega arith in
     rw twice at two
 
-mul-row-sum-3 : tie.Need-overflow-mul-row-sum-3 invariant-loop decreases-loop
+mul-row-sum-3 : tie.Need-offset_bounds-work-source-then-i-n invariant-loop-i decreases-loop-i
 mul-row-sum-3 c = omega arith
 
-sub-row-sum-3 : tie.Need-overflow-sub-row-sum-3 invariant-loop decreases-loop
+sub-row-sum-3 : tie.Need-slice_bounds-row_sum-count-then-i-n invariant-loop-i decreases-loop-i
 sub-row-sum-3 c = omega arith
 
-part-row-sum-start-3 : tie.Need-slice-bounds-row-sum-start-3 invariant-loop decreases-loop
+part-row-sum-start-3 : tie.Need-slice_bounds-row_sum-start-then-i-n invariant-loop-i decreases-loop-i
 part-row-sum-start-3 c = omega arith
 
-part-row-sum-end-3 : tie.Need-slice-bounds-row-sum-end-3 invariant-loop decreases-loop
+part-row-sum-end-3 : tie.Need-slice_bounds-row_sum-end-then-i-n invariant-loop-i decreases-loop-i
 part-row-sum-end-3 c = omega arith
 
-row-sum-requires-3 : tie.Need-row-sum-requires-3 invariant-loop decreases-loop
+row-sum-requires-3 : tie.Need-row_sum-acc-requires-then-i-n invariant-loop-i decreases-loop-i
 row-sum-requires-3 c κs =
-    let head = c.before.before.before.before in
-    let start = head.before.before.before.before.before in
-    let lent = length-lent-part start.args.source start.args.n head.loop.work (omega arith) in
-    rw lent (start.requires.0, (start.requires.1.0, omega arith))
+    let lent = length-lent-part c.args.source c.args.n c.loop-i.work (omega arith) in
+    rw lent (c.requires.0, (c.requires.1.0, omega arith))
 
-add-work-4 : tie.Need-overflow-add-work-4 invariant-loop decreases-loop
+add-work-4 : tie.Need-overflow_add-work-then-i-n invariant-loop-i decreases-loop-i
 add-work-4 c = omega arith
 
-mul-work-3 : tie.Need-overflow-mul-work-3 invariant-loop decreases-loop
+mul-work-3 : tie.Need-offset_bounds-work-target-then-i-n invariant-loop-i decreases-loop-i
 mul-work-3 c = omega arith
 
-slice-write-work-3 : tie.Need-slice-write-work-3 invariant-loop decreases-loop
+slice-write-work-3 : tie.Need-bounds-work-target-then-i-n invariant-loop-i decreases-loop-i
 slice-write-work-3 c = omega arith
 
-same_length : tie.Need-same-length invariant-loop decreases-loop
+same_length : tie.Need-shape_of-work-then-i-n invariant-loop-i decreases-loop-i
 same_length c =
-    let head = c.before.before.before.before.before in
-    simp length-set head.loop.invariant.length-kept
+    simp length-set c.loop-i.invariant.length-kept
 
-returns : tie.Need-returns invariant-loop decreases-loop
+returns : tie.Need-returns-then-i-n invariant-loop-i decreases-loop-i
 returns c =
-    let last = c in
-    let head = c.before.before.before.before.before in
-    let start = head.before.before.before.before.before in
-    let written = head.loop.invariant in
-    let source = part-kept written start.args.source start.requires.1.1.2 in
-    let left : head.loop.i < start.args.n = omega arith in
-    let one = written_next written left _ _ refl (rw (lent-part, source) at last.row-sum3.ensures) in
+    let written = c.loop-i.invariant in
+    let source = part-kept written c.args.source c.requires.1.1.2 in
+    let left : c.loop-i.i < c.args.n = omega arith in
+    let one = written_next written left _ _ refl (rw (lent-part, source) at c.row_sum-acc-then-i-n.ensures) in
     written_all one (omega arith) refl
 
-same-length-2 : tie.Need-same-length-2 invariant-loop decreases-loop
+same-length-2 : tie.Need-shape_of-work-else-i-n invariant-loop-i decreases-loop-i
 same-length-2 c =
-    let head = c.before.before in
-    head.loop.invariant.length-kept
+    c.loop-i.invariant.length-kept
 
-returns-2 : tie.Need-returns-2 invariant-loop decreases-loop
+returns-2 : tie.Need-returns-else-i-n invariant-loop-i decreases-loop-i
 returns-2 c =
-    let head = c.before.before in
-    written_all head.loop.invariant (omega arith) refl
+    written_all c.loop-i.invariant (omega arith) refl
 
-pub product-in-spec : {M : Type 1} → statement M
-product-in-spec =
+pub product_in_spec : {M : Type 1} → statement M
+product_in_spec =
     tie.close
     (tie.spec
-    invariant-loop
-    decreases-loop
+    invariant-loop-i
+    decreases-loop-i
     add-source-end
     loop-holds
     add-loop

@@ -9,84 +9,80 @@ use Rattle.graph_two_products.proofs.Turns.{TwoProducts, products-none, products
 use Rattle.graph_two_products.proofs.kernel.shared_products_in.Statement.{statement}
 use Rattle.graph_two_products.proofs.kernel.shared_products_in.Tie as tie
 
-abbrev invariant-loop : tie.invariant-loop
-invariant-loop row-ptr col-idx vals1 vals2 work₀ n source first second source-end i₀ work i =
+abbrev invariant-loop-i : tie.invariant-loop-i
+invariant-loop-i row-ptr col-idx vals1 vals2 work₀ n source first second source-end i₀ work i =
     TwoProducts n row-ptr col-idx vals1 vals2 source first second work₀ i work
 
-abbrev decreases-loop : tie.decreases-loop
-decreases-loop row-ptr col-idx vals1 vals2 work₀ n source first second source-end i₀ work i = n - i
+abbrev decreases-loop-i : tie.decreases-loop-i
+decreases-loop-i row-ptr col-idx vals1 vals2 work₀ n source first second source-end i₀ work i = n - i
 
-add-source-end : tie.Need-overflow-add-source-end invariant-loop decreases-loop
+add-source-end : tie.Need-overflow_add-source_end invariant-loop-i decreases-loop-i
 add-source-end c = omega arith
 
-loop-holds : tie.Need-loop-init invariant-loop decreases-loop
+loop-holds : tie.Need-loop-i-init invariant-loop-i decreases-loop-i
 loop-holds c = products-none _ _ _ _ _ _ _ _ _
 
-mul-row-sums-of-one : tie.Need-overflow-mul-row-sums-of-one invariant-loop decreases-loop
+mul-row-sums-of-one : tie.Need-offset_bounds-work-source invariant-loop-i decreases-loop-i
 mul-row-sums-of-one c = omega arith
 
-sub-row-sums-of-one : tie.Need-overflow-sub-row-sums-of-one invariant-loop decreases-loop
+sub-row-sums-of-one : tie.Need-slice_bounds-row_sums_of_one-count invariant-loop-i decreases-loop-i
 sub-row-sums-of-one c = omega arith
 
-part-row-sums-of-one-start : tie.Need-slice-bounds-row-sums-of-one-start invariant-loop decreases-loop
+part-row-sums-of-one-start : tie.Need-slice_bounds-row_sums_of_one-start invariant-loop-i decreases-loop-i
 part-row-sums-of-one-start c = omega arith
 
-part-row-sums-of-one-end : tie.Need-slice-bounds-row-sums-of-one-end invariant-loop decreases-loop
+part-row-sums-of-one-end : tie.Need-slice_bounds-row_sums_of_one-end invariant-loop-i decreases-loop-i
 part-row-sums-of-one-end c = omega arith
 
-row-sums-of-one-requires : tie.Need-row-sums-of-one-requires invariant-loop decreases-loop
+row-sums-of-one-requires : tie.Need-row_sums_of_one-sums-requires invariant-loop-i decreases-loop-i
 row-sums-of-one-requires c κs =
-    let head = c.before.before.before in
-    let start = head.before.before.before.before.before.before in
-    let lent = length-lent-part start.args.source start.args.n head.loop.work (omega arith) in
-    rw lent (start.requires.0, (start.requires.1.0, omega arith))
+    let lent = length-lent-part c.args.source c.args.n c.loop-i.work (omega arith) in
+    rw lent (c.requires.0, (c.requires.1.0, omega arith))
 
-add-work : tie.Need-overflow-add-work invariant-loop decreases-loop
+add-work : tie.Need-overflow_add-work invariant-loop-i decreases-loop-i
 add-work c = omega arith
 
-mul-work : tie.Need-overflow-mul-work invariant-loop decreases-loop
+mul-work : tie.Need-offset_bounds-work-first invariant-loop-i decreases-loop-i
 mul-work c = omega arith
 
-slice-write-work : tie.Need-slice-write-work invariant-loop decreases-loop
+slice-write-work : tie.Need-bounds-work-first invariant-loop-i decreases-loop-i
 slice-write-work c = omega arith
 
-add-work-2 : tie.Need-overflow-add-work-2 invariant-loop decreases-loop
+add-work-2 : tie.Need-overflow_add-work-in-loop-i invariant-loop-i decreases-loop-i
 add-work-2 c = omega arith
 
-mul-work-2 : tie.Need-overflow-mul-work-2 invariant-loop decreases-loop
+mul-work-2 : tie.Need-offset_bounds-work-second invariant-loop-i decreases-loop-i
 mul-work-2 c = omega arith
 
-slice-write-work-2 : tie.Need-slice-write-work-2 invariant-loop decreases-loop
+slice-write-work-2 : tie.Need-bounds-work-second invariant-loop-i decreases-loop-i
 slice-write-work-2 c = simp length-set (omega arith)
 
-add-i : tie.Need-overflow-add-i invariant-loop decreases-loop
+add-i : tie.Need-overflow_step-i invariant-loop-i decreases-loop-i
 add-i c = omega arith
 
-loop-less : tie.Need-loop-smaller invariant-loop decreases-loop
-loop-less c = fewer-turns _ _ c.before.before.before.loop-test.true
+loop-less : tie.Need-loop-i-smaller invariant-loop-i decreases-loop-i
+loop-less c = fewer-turns _ _ c.loop-i-test.true
 
-loop-again : tie.Need-loop-preserved invariant-loop decreases-loop
+loop-again : tie.Need-loop-i-preserved invariant-loop-i decreases-loop-i
 loop-again c =
-    let head = c.before.before.before.before in
-    let start = head.before.before.before.before.before.before in
-    let args = start.args in
-    let sums = c.row-sums-of-one.ensures in
-    products-next args.n args.row-ptr.now args.col-idx.now args.vals1.now args.vals2.now args.source args.first args.second
-    args.work.now head.loop.invariant start.requires.1.1.0.1 start.requires.1.1.1.0 start.requires.1.1.1.1
-    c.before.before.before.loop-test.true sums.0 sums.1
+    let args = c.args in
+    let sums = c.row_sums_of_one-sums.ensures in
+    products-next args.n args.row_ptr.now args.col_idx.now args.vals1.now args.vals2.now args.source args.first args.second
+    args.work.now c.loop-i.invariant c.requires.1.1.0.1 c.requires.1.1.1.0 c.requires.1.1.1.1
+    c.loop-i-test.true sums.0 sums.1
 
-same_length : tie.Need-same-length invariant-loop decreases-loop
-same_length c = c.before.loop.invariant.length-kept
+same_length : tie.Need-shape_of-work invariant-loop-i decreases-loop-i
+same_length c = c.loop-i.invariant.length-kept
 
-returns : tie.Need-returns invariant-loop decreases-loop
-returns c = products-all _ _ _ _ _ _ _ _ _ c.before.loop.invariant c.loop-test.false
+returns : tie.Need-returns invariant-loop-i decreases-loop-i
+returns c = products-all _ _ _ _ _ _ _ _ _ c.loop-i.invariant c.loop-i-test.false
 
-pub shared-products-in-spec : {M : Type 1} → statement M
-shared-products-in-spec =
+pub shared_products_in_spec : {M : Type 1} → statement M
+shared_products_in_spec =
     tie.close
     (tie.spec
-    invariant-loop
-    decreases-loop
+    invariant-loop-i
+    decreases-loop-i
     add-source-end
     loop-holds
     mul-row-sums-of-one

@@ -11,126 +11,89 @@ use Rattle.magnus6_graph_parts.proofs.Omega6Parts.{c1-formed}
 use Rattle.magnus6_graph_c1.proofs.kernel.form_c1.Statement.{statement}
 use Rattle.magnus6_graph_c1.proofs.kernel.form_c1.Tie as tie
 
-form-b-requires : tie.Need-form-b-requires
+form-b-requires : tie.Need-form_b-requires
 form-b-requires c κs =
-    let start = c.before.before.before.before.before.before.before.before.before.before.before in
-    (start.requires.0, (start.requires.1.0, (start.requires.1.1.0, omega (arith, start.requires.1.1.1.0, start.requires.1.1.1.1))))
+    (c.requires.0, (c.requires.1.0, (c.requires.1.1.0, omega (arith, c.requires.1.1.1.0, c.requires.1.1.1.1))))
 
-mul-product-in : tie.Need-overflow-mul-product-in
+mul-product-in : tie.Need-overflow_mul-n
 mul-product-in c =
-    let start = c.before.before.before.before.before.before.before.before.before.before.before.before.before.before.before in
-    omega (arith, start.requires.1.1.1.0, start.well-formed)
+    omega (arith, c.requires.1.1.1.0, c.well_formed)
 
-mul-product-in-2 : tie.Need-overflow-mul-product-in-2
+mul-product-in-2 : tie.Need-overflow_mul-n-2
 mul-product-in-2 c =
-    let start = c.before.before.before.before.before.before.before.before.before.before.before.before.before.before.before in
-    omega (arith, start.requires.1.1.1.0, start.well-formed)
+    omega (arith, c.requires.1.1.1.0, c.well_formed)
 
-product-in-requires : tie.Need-product-in-requires
+product-in-requires : tie.Need-product_in-requires
 product-in-requires c κs =
-    let first = c.before.before.before in
-    let start = first.before.before.before.before.before.before.before.before.before.before.before.before in
-    (start.requires.1.0.pattern, (start.requires.1.0.count, omega (arith, start.requires.1.1.1.0, start.requires.1.1.1.1, first.form-b.auto.1.1.1.1.1.1.1.1.1.1.1.0)))
+    (c.requires.1.0.pattern, (c.requires.1.0.count, omega (arith, c.requires.1.1.1.0, c.requires.1.1.1.1, c.form_b.auto.work)))
 
-mul-two-products-in : tie.Need-overflow-mul-two-products-in
+mul-two-products-in : tie.Need-overflow_mul-n-3
 mul-two-products-in c =
-    let start = c.before.before.before.before.before.before.before.before.before.before.before.before.before.before.before.before.before.before.before in
-    omega (arith, start.requires.1.1.1.0, start.well-formed)
+    omega (arith, c.requires.1.1.1.0, c.well_formed)
 
-mul-two-products-in-2 : tie.Need-overflow-mul-two-products-in-2
+mul-two-products-in-2 : tie.Need-overflow_mul-n-4
 mul-two-products-in-2 c =
-    let start = c.before.before.before.before.before.before.before.before.before.before.before.before.before.before.before.before.before.before.before in
-    omega (arith, start.requires.1.1.1.0, start.well-formed)
+    omega (arith, c.requires.1.1.1.0, c.well_formed)
 
-mul-two-products-in-3 : tie.Need-overflow-mul-two-products-in-3
+mul-two-products-in-3 : tie.Need-overflow_mul-n-5
 mul-two-products-in-3 c =
-    let start = c.before.before.before.before.before.before.before.before.before.before.before.before.before.before.before.before.before.before.before in
-    omega (arith, start.requires.1.1.1.0, start.well-formed)
+    omega (arith, c.requires.1.1.1.0, c.well_formed)
 
-two-products-in-requires : tie.Need-two-products-in-requires
+two-products-in-requires : tie.Need-two_products_in-requires
 two-products-in-requires c κs =
-    let second = c.before.before.before in
-    let first = second.before.before.before.before in
-    let start = first.before.before.before.before.before.before.before.before.before.before.before.before in
-    (start.requires.0, (start.requires.1.1.0.0, (start.requires.1.1.0.1, (omega (arith, start.requires.1.1.1.0, start.requires.1.1.1.1, first.form-b.auto.1.1.1.1.1.1.1.1.1.1.1.0, second.product-in.auto.1.1.1.0), omega (arith, start.requires.1.1.1.0, start.requires.1.1.1.1, first.form-b.auto.1.1.1.1.1.1.1.1.1.1.1.0, second.product-in.auto.1.1.1.0)))))
+    (c.requires.0, (c.requires.1.1.0.0, (c.requires.1.1.0.1, (omega (arith, c.requires.1.1.1.0, c.requires.1.1.1.1, c.form_b.auto.work, c.product_in.auto.work), omega (arith, c.requires.1.1.1.0, c.requires.1.1.1.1, c.form_b.auto.work, c.product_in.auto.work)))))
 
-mul-scaled-difference : tie.Need-overflow-mul-scaled-difference
+mul-scaled-difference : tie.Need-overflow_mul-n-6
 mul-scaled-difference c =
-    let start = c.before.before.before.before.before.before.before.before.before.before.before.before.before.before.before.before.before.before.before.before.before.before.before in
-    omega (arith, start.requires.1.1.1.0, start.well-formed)
+    omega (arith, c.requires.1.1.1.0, c.well_formed)
 
-mul-scaled-difference-2 : tie.Need-overflow-mul-scaled-difference-2
+mul-scaled-difference-2 : tie.Need-overflow_mul-n-7
 mul-scaled-difference-2 c =
-    let start = c.before.before.before.before.before.before.before.before.before.before.before.before.before.before.before.before.before.before.before.before.before.before.before in
-    omega (arith, start.requires.1.1.1.0, start.well-formed)
+    omega (arith, c.requires.1.1.1.0, c.well_formed)
 
-mul-scaled-difference-3 : tie.Need-overflow-mul-scaled-difference-3
+mul-scaled-difference-3 : tie.Need-overflow_mul-n-8
 mul-scaled-difference-3 c =
-    let start = c.before.before.before.before.before.before.before.before.before.before.before.before.before.before.before.before.before.before.before.before.before.before.before in
-    omega (arith, start.requires.1.1.1.0, start.well-formed)
+    omega (arith, c.requires.1.1.1.0, c.well_formed)
 
-scaled-difference-requires : tie.Need-scaled-difference-requires
+scaled-difference-requires : tie.Need-scaled_difference-requires
 scaled-difference-requires c κs =
-    let third = c.before.before.before in
-    let second = third.before.before.before.before in
-    let first = second.before.before.before.before in
-    let start = first.before.before.before.before.before.before.before.before.before.before.before.before in
-    omega (arith, start.requires.1.1.1.0, start.requires.1.1.1.1, first.form-b.auto.1.1.1.1.1.1.1.1.1.1.1.0, second.product-in.auto.1.1.1.0, third.two-products-in.auto.1.1.1.1.1.1.1.0)
+    omega (arith, c.requires.1.1.1.0, c.requires.1.1.1.1, c.form_b.auto.work, c.product_in.auto.work, c.two_products_in.auto.work)
 
-mul-scaled-less : tie.Need-overflow-mul-scaled-less
+mul-scaled-less : tie.Need-overflow_mul-n-9
 mul-scaled-less c =
-    let start = c.before.before.before.before.before.before.before.before.before.before.before.before.before.before.before.before.before.before.before.before.before.before.before.before.before.before.before in
-    omega (arith, start.requires.1.1.1.0, start.well-formed)
+    omega (arith, c.requires.1.1.1.0, c.well_formed)
 
-mul-scaled-less-2 : tie.Need-overflow-mul-scaled-less-2
+mul-scaled-less-2 : tie.Need-overflow_mul-n-10
 mul-scaled-less-2 c =
-    let start = c.before.before.before.before.before.before.before.before.before.before.before.before.before.before.before.before.before.before.before.before.before.before.before.before.before.before.before in
-    omega (arith, start.requires.1.1.1.0, start.well-formed)
+    omega (arith, c.requires.1.1.1.0, c.well_formed)
 
-mul-scaled-less-3 : tie.Need-overflow-mul-scaled-less-3
+mul-scaled-less-3 : tie.Need-overflow_mul-n-11
 mul-scaled-less-3 c =
-    let start = c.before.before.before.before.before.before.before.before.before.before.before.before.before.before.before.before.before.before.before.before.before.before.before.before.before.before.before in
-    omega (arith, start.requires.1.1.1.0, start.well-formed)
+    omega (arith, c.requires.1.1.1.0, c.well_formed)
 
-scaled-less-requires : tie.Need-scaled-less-requires
+scaled-less-requires : tie.Need-scaled_less-requires
 scaled-less-requires c κs =
-    let fourth = c.before.before.before in
-    let third = fourth.before.before.before.before in
-    let second = third.before.before.before.before in
-    let first = second.before.before.before.before in
-    let start = first.before.before.before.before.before.before.before.before.before.before.before.before in
-    omega (arith, start.requires.1.1.1.0, start.requires.1.1.1.1, first.form-b.auto.1.1.1.1.1.1.1.1.1.1.1.0, second.product-in.auto.1.1.1.0, third.two-products-in.auto.1.1.1.1.1.1.1.0, fourth.scaled-difference.auto.0)
+    omega (arith, c.requires.1.1.1.0, c.requires.1.1.1.1, c.form_b.auto.work, c.product_in.auto.work, c.two_products_in.auto.work, c.scaled_difference.auto.work)
 
-same_length : tie.Need-same-length
+same_length : tie.Need-shape_of-work
 same_length c =
-    let fifth = c.before.before in
-    let fourth = fifth.before.before.before.before in
-    let third = fourth.before.before.before.before in
-    let second = third.before.before.before.before in
-    let first = second.before.before.before.before in
-    omega (arith, first.form-b.auto.1.1.1.1.1.1.1.1.1.1.1.0, second.product-in.auto.1.1.1.0, third.two-products-in.auto.1.1.1.1.1.1.1.0, fourth.scaled-difference.auto.0, fifth.scaled-less.auto.0)
+    omega (arith, c.form_b.auto.work, c.product_in.auto.work, c.two_products_in.auto.work, c.scaled_difference.auto.work, c.scaled_less.auto.work)
 
 returns : tie.Need-returns
 unfolding of_bits
 returns c =
-    let fifth = c.before.before in
-    let fourth = fifth.before.before.before.before in
-    let third = fourth.before.before.before.before in
-    let second = third.before.before.before.before in
-    let first = second.before.before.before.before in
-    let start = first.before.before.before.before.before.before.before.before.before.before.before.before in
-    let args = start.args in
+    let args = c.args in
     let n = args.n in
-    let L1 = row_product64 n args.row-ptr1.now args.col-idx1.now args.vals1.now in
-    let L2 = row_product64 n args.row-ptr2.now args.col-idx2.now args.vals2.now in
-    let L3 = row_product64 n args.row-ptr3.now args.col-idx3.now args.vals3.now in
+    let L1 = row_product64 n args.row_ptr1.now args.col_idx1.now args.vals1.now in
+    let L2 = row_product64 n args.row_ptr2.now args.col_idx2.now args.vals2.now in
+    let L3 = row_product64 n args.row_ptr3.now args.col_idx3.now args.vals3.now in
     c1-formed (ieee binary64) n constants6 args.tau L1 L2 L3 (λ x. length-tabulate _ n) (λ x. length-tabulate _ n) (λ x. length-tabulate _ n)
-    (part args.x n args.work.now) args.work.now _ _ _ _ start.requires.1.1.1.0
-    first.form-b.ensures second.product-in.ensures third.two-products-in.ensures fourth.scaled-difference.ensures
-    fifth.scaled-less.ensures
+    (part args.x n args.work.now) args.work.now _ _ _ _ c.requires.1.1.1.0
+    c.form_b.ensures c.product_in.ensures c.two_products_in.ensures c.scaled_difference.ensures
+    c.scaled_less.ensures
 
-pub form-c1-spec : {M : Type 1} → statement M
-form-c1-spec =
+pub form_c1_spec : {M : Type 1} → statement M
+form_c1_spec =
     tie.close
     (tie.spec
     form-b-requires

@@ -11,118 +11,112 @@ use Rattle.magnus6_graph_parts.proofs.Omega6Walks.{second_difference_of, second_
 use Rattle.magnus6_graph_parts.proofs.kernel.b3_sum.Statement.{statement}
 use Rattle.magnus6_graph_parts.proofs.kernel.b3_sum.Tie as tie
 
-abbrev invariant-loop : tie.invariant-loop
-invariant-loop work₀ n tau a1 a2 a3 target scale i₀ work i =
+abbrev invariant-loop-i : tie.invariant-loop-i
+invariant-loop-i work₀ n tau a1 a2 a3 target scale i₀ work i =
     Written (11 * n)
     (second_difference_at (ieee binary64) (mul binary64 tau constants6.ten_over3)
     (part (6 * n) n work₀) (part (7 * n) n work₀) (part (8 * n) n work₀))
     n work₀ i work
 
-abbrev decreases-loop : tie.decreases-loop
-decreases-loop work₀ n tau a1 a2 a3 target scale i₀ work i = n - i
+abbrev decreases-loop-i : tie.decreases-loop-i
+decreases-loop-i work₀ n tau a1 a2 a3 target scale i₀ work i = n - i
 
-mul-a1 : tie.Need-overflow-mul-a1 invariant-loop decreases-loop
+mul-a1 : tie.Need-overflow_mul-a1 invariant-loop-i decreases-loop-i
 mul-a1 c = omega arith
 
-mul-a2 : tie.Need-overflow-mul-a2 invariant-loop decreases-loop
+mul-a2 : tie.Need-overflow_mul-a2 invariant-loop-i decreases-loop-i
 mul-a2 c = omega arith
 
-mul-a3 : tie.Need-overflow-mul-a3 invariant-loop decreases-loop
+mul-a3 : tie.Need-overflow_mul-a3 invariant-loop-i decreases-loop-i
 mul-a3 c = omega arith
 
-mul-target : tie.Need-overflow-mul-target invariant-loop decreases-loop
+mul-target : tie.Need-overflow_mul-target invariant-loop-i decreases-loop-i
 mul-target c = omega arith
 
-loop-holds : tie.Need-loop-init invariant-loop decreases-loop
+loop-holds : tie.Need-loop-i-init invariant-loop-i decreases-loop-i
 loop-holds c = written_none _ _ _ _
 
-add-work : tie.Need-overflow-add-work invariant-loop decreases-loop
+add-work : tie.Need-overflow_add-work invariant-loop-i decreases-loop-i
 add-work c = omega arith
 
-mul-work : tie.Need-overflow-mul-work invariant-loop decreases-loop
+mul-work : tie.Need-offset_bounds-work-a3 invariant-loop-i decreases-loop-i
 mul-work c = omega arith
 
-slice-read-work : tie.Need-slice-read-work invariant-loop decreases-loop
+slice-read-work : tie.Need-bounds-work-a3 invariant-loop-i decreases-loop-i
 slice-read-work c = omega arith
 
-add-work-2 : tie.Need-overflow-add-work-2 invariant-loop decreases-loop
+add-work-2 : tie.Need-overflow_add-work-in-loop-i invariant-loop-i decreases-loop-i
 add-work-2 c = omega arith
 
-mul-work-2 : tie.Need-overflow-mul-work-2 invariant-loop decreases-loop
+mul-work-2 : tie.Need-offset_bounds-work-a2 invariant-loop-i decreases-loop-i
 mul-work-2 c = omega arith
 
-slice-read-work-2 : tie.Need-slice-read-work-2 invariant-loop decreases-loop
+slice-read-work-2 : tie.Need-bounds-work-a2 invariant-loop-i decreases-loop-i
 slice-read-work-2 c = omega arith
 
-add-work-3 : tie.Need-overflow-add-work-3 invariant-loop decreases-loop
+add-work-3 : tie.Need-overflow_add-work-in-loop-i-2 invariant-loop-i decreases-loop-i
 add-work-3 c = omega arith
 
-mul-work-3 : tie.Need-overflow-mul-work-3 invariant-loop decreases-loop
+mul-work-3 : tie.Need-offset_bounds-work-a2-in-loop-i invariant-loop-i decreases-loop-i
 mul-work-3 c = omega arith
 
-slice-read-work-3 : tie.Need-slice-read-work-3 invariant-loop decreases-loop
+slice-read-work-3 : tie.Need-bounds-work-a2-in-loop-i invariant-loop-i decreases-loop-i
 slice-read-work-3 c = omega arith
 
-add-work-4 : tie.Need-overflow-add-work-4 invariant-loop decreases-loop
+add-work-4 : tie.Need-overflow_add-work-in-loop-i-3 invariant-loop-i decreases-loop-i
 add-work-4 c = omega arith
 
-mul-work-4 : tie.Need-overflow-mul-work-4 invariant-loop decreases-loop
+mul-work-4 : tie.Need-offset_bounds-work-a1 invariant-loop-i decreases-loop-i
 mul-work-4 c = omega arith
 
-slice-read-work-4 : tie.Need-slice-read-work-4 invariant-loop decreases-loop
+slice-read-work-4 : tie.Need-bounds-work-a1 invariant-loop-i decreases-loop-i
 slice-read-work-4 c = omega arith
 
-add-work-5 : tie.Need-overflow-add-work-5 invariant-loop decreases-loop
+add-work-5 : tie.Need-overflow_add-work-in-loop-i-4 invariant-loop-i decreases-loop-i
 add-work-5 c = omega arith
 
-mul-work-5 : tie.Need-overflow-mul-work-5 invariant-loop decreases-loop
+mul-work-5 : tie.Need-offset_bounds-work-target invariant-loop-i decreases-loop-i
 mul-work-5 c = omega arith
 
-slice-write-work : tie.Need-slice-write-work invariant-loop decreases-loop
+slice-write-work : tie.Need-bounds-work-target invariant-loop-i decreases-loop-i
 slice-write-work c = omega arith
 
-add-i : tie.Need-overflow-add-i invariant-loop decreases-loop
+add-i : tie.Need-overflow_step-i invariant-loop-i decreases-loop-i
 add-i c = omega arith
 
-loop-less : tie.Need-loop-smaller invariant-loop decreases-loop
+loop-less : tie.Need-loop-i-smaller invariant-loop-i decreases-loop-i
 loop-less c =
-    let test = c.before.before.before.before in
-    fewer-turns _ _ test.loop-test.true
+    fewer-turns _ _ c.loop-i-test.true
 
-loop-again : tie.Need-loop-preserved invariant-loop decreases-loop
+loop-again : tie.Need-loop-i-preserved invariant-loop-i decreases-loop-i
 unfolding of_bits div
 loop-again c =
-    let test = c.before.before.before.before in
-    let loop = test.before in
-    let start = loop.before in
-    let n = start.args.n in
-    let written = loop.loop.invariant in
-    let turn = test.loop-test.true in
+    let n = c.args.n in
+    let written = c.loop-i.invariant in
+    let turn = c.loop-i-test.true in
     let a1 = read-apart written (6 * n) (omega arith) turn nan in
     let a2 = read-apart written (7 * n) (omega arith) turn nan in
     let a3 = read-apart written (8 * n) (omega arith) turn nan in
-    let scale = mul binary64 start.args.tau constants6.ten_over3 in
+    let scale = mul binary64 c.args.tau constants6.ten_over3 in
     written_next written turn _ _ (omega arith) (λ j. second_difference_of (ieee binary64) scale (a1 j) (a2 j) (a3 j))
 
-same_length : tie.Need-same-length invariant-loop decreases-loop
-same_length c = c.before.loop.invariant.length-kept
+same_length : tie.Need-shape_of-work invariant-loop-i decreases-loop-i
+same_length c = c.loop-i.invariant.length-kept
 
-returns : tie.Need-returns invariant-loop decreases-loop
+returns : tie.Need-returns invariant-loop-i decreases-loop-i
 returns c =
-    let loop = c.before in
-    let start = loop.before in
-    let args = start.args in
+    let args = c.args in
     let n = args.n in
     let work = args.work.now in
-    written_all loop.loop.invariant c.loop-test.false
+    written_all c.loop-i.invariant c.loop-i-test.false
     (second-difference-walk (ieee binary64) n _ (part (6 * n) n work) (part (7 * n) n work) (part (8 * n) n work))
 
-pub b3-sum-spec : {M : Type 1} → statement M
-b3-sum-spec =
+pub b3_sum_spec : {M : Type 1} → statement M
+b3_sum_spec =
     tie.close
     (tie.spec
-    invariant-loop
-    decreases-loop
+    invariant-loop-i
+    decreases-loop-i
     mul-a1
     mul-a2
     mul-a3

@@ -17,44 +17,36 @@ load-requires c κs = search rules
 
 taylor4-requires : tie.Need-taylor4-requires
 taylor4-requires c κs =
-    let loaded = c.before.before.before in
-    let start = loaded.before.before.before.before.before.before.before.before.before.before.before in
-    (start.requires.0, (start.requires.1.0, omega (arith, start.requires.1.1.1, loaded.load.auto.0)))
+    (c.requires.0, (c.requires.1.0, omega (arith, c.requires.1.1.1, c.load.auto.work)))
 
 store-requires : tie.Need-store-requires
 store-requires c κs = search rules
 
-mul-clear : tie.Need-overflow-mul-clear
+mul-clear : tie.Need-overflow_mul-n
 mul-clear c =
-    let start = c.before.before.before.before.before.before.before.before.before.before.before.before.before.before.before.before.before.before.before.before.before.before.before in
-    omega (arith, start.requires.1.1.1, start.well-formed)
+    omega (arith, c.requires.1.1.1, c.well_formed)
 
 clear-requires : tie.Need-clear-requires
 clear-requires c κs = search rules
 
-same_length : tie.Need-same-length
+same_length : tie.Need-shape_of-dst
 same_length c = search rules
 
-same-length-2 : tie.Need-same-length-2
+same-length-2 : tie.Need-shape_of-work
 same-length-2 c = search rules
 
 returns : tie.Need-returns
 returns c =
-    let cleared = c.before.before in
-    let stored = cleared.before.before.before.before in
-    let summed = stored.before.before.before.before.before in
-    let loaded = summed.before.before.before.before in
-    let start = loaded.before.before.before.before.before.before.before.before.before.before.before in
-    let args = start.args in
+    let args = c.args in
     let n = length args.src.now in
-    let room = start.requires.1.1 in
+    let room = c.requires.1.1 in
     let signal = signal-loaded (ieee binary64) n (5 * n) args.src.now args.work.now _ refl (omega arith) room.1 in
     step-done (ieee binary64) n (5 * n) (5 * n) _ _ 4 _ _ _ _ room.0 room.1 (omega arith)
-    (signal loaded.load.ensures) summed.taylor4.ensures stored.store.ensures (length-tabulate _ _)
-    cleared.clear.ensures
+    (signal c.load.ensures) c.taylor4.ensures c.store.ensures (length-tabulate _ _)
+    c.clear.ensures
 
-pub step4-spec : {M : Type 1} → statement M
-step4-spec =
+pub step4_spec : {M : Type 1} → statement M
+step4_spec =
     tie.close
     (tie.spec
     load-requires

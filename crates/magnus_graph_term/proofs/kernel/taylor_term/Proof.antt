@@ -18,49 +18,40 @@ use borrow.Author.Rules.{rules}
 use Rattle.magnus_graph_term.proofs.kernel.taylor_term.Statement.{statement}
 use Rattle.magnus_graph_term.proofs.kernel.taylor_term.Tie as tie
 
-mul-a : tie.Need-overflow-mul-a
+mul-a : tie.Need-overflow_mul-a
 mul-a c = search rules
 
-mul-b : tie.Need-overflow-mul-b
+mul-b : tie.Need-overflow_mul-b
 mul-b c = search rules
 
-mul-c : tie.Need-overflow-mul-c
+mul-c : tie.Need-overflow_mul-c
 mul-c c = search rules
 
-two-products-requires : tie.Need-two-products-requires
+two-products-requires : tie.Need-two_products-requires
 two-products-requires c κs =
-    let start = c.before.before.before.before.before.before.before.before in
-    let pre = start.requires in
+    let pre = c.requires in
     (pre.0, (pre.1.0, (omega arith, omega arith)))
 
-two-products-requires-2 : tie.Need-two-products-requires-2
+two-products-requires-2 : tie.Need-two_products-requires-2
 two-products-requires-2 c κs =
-    let start = c.before.before.before.before.before.before.before.before.before.before.before.before in
-    let pre = start.requires in
+    let pre = c.requires in
     (pre.0, (pre.1.0, (omega arith, omega arith)))
 
-omega-sum-requires : tie.Need-omega-sum-requires
+omega-sum-requires : tie.Need-omega_sum-requires
 omega-sum-requires c κs =
-    let second = c.before.before.before in
-    let first = second.before.before.before.before in
-    let start = first.before.before.before.before.before.before.before.before.before in
-    omega (arith, start.requires.1.1, first.two_products.auto.1.1.1.1.1.1.0, second.two-products2.auto.1.1.1.1.1.1.0)
+    omega (arith, c.requires.1.1, c.two_products.auto.work, c.two_products-2.auto.work)
 
-add-scaled-requires : tie.Need-add-scaled-requires
+add-scaled-requires : tie.Need-add_scaled-requires
 add-scaled-requires c κs =
-    let formed = c.before.before.before in
-    let second = formed.before.before.before.before in
-    let first = second.before.before.before.before in
-    let start = first.before.before.before.before.before.before.before.before.before in
     omega (
       arith,
-      start.requires.1.1,
-      first.two_products.auto.1.1.1.1.1.1.0,
-      second.two-products2.auto.1.1.1.1.1.1.0,
-      formed.omega-sum.auto.0,
+      c.requires.1.1,
+      c.two_products.auto.work,
+      c.two_products-2.auto.work,
+      c.omega_sum.auto.work,
     )
 
-same_length : tie.Need-same-length
+same_length : tie.Need-shape_of-work
 same_length c = search rules
 
 -- the work slice once Ωv, formed with these factors, is written over d, and once the coefficient times it is added to the sum
@@ -86,51 +77,47 @@ scale start = mul binary64 minus_half start.args.tau
 abbrev comm-scale : tie.Start → Float
 comm-scale start = let a = start.args in mul binary64 (mul binary64 (mul binary64 a.sign a.s) a.tau) a.tau
 
-abbrev begun : tie.After-omega-sum → tie.Start
+abbrev begun : tie.After-omega_sum → tie.Start
 begun c =
-    let first = c.before.before.before.before.before.before.before.before in
-    first.before.before.before.before.before.before.before.before.before
+    c.before.before.before.before.before.before.before.before.before.before.before.before.before.before.before.before.before
 
-sum-formed : (c : tie.After-omega-sum)
-    → c.omega-sum.new.0
-    ≡ summed (begun c).args.n (scale (begun c)) (comm-scale (begun c)) c.before.before.before.before.two-products2.new.1.1.1.1.1.1.0
+sum-formed : (c : tie.After-omega_sum)
+    → c.omega_sum.new.work
+    ≡ summed (begun c).args.n (scale (begun c)) (comm-scale (begun c)) c.two_products-2.new.work
 unfolding of_bits neg
-sum-formed c = summed-with _ _ _ (scale (begun c)) (comm-scale (begun c)) _ c.omega-sum.ensures refl refl
+sum-formed c = summed-with _ _ _ (scale (begun c)) (comm-scale (begun c)) _ c.omega_sum.ensures refl refl
 
 -- the coefficient of the term is the given one
-term-added : (c : tie.After-add-scaled)
+term-added : (c : tie.After-add_scaled)
     → let formed = c.before.before.before.before in
-    c.add-scaled.new.0 ≡ added (begun formed).args.n (begun formed).args.coefficient formed.omega-sum.new.0
-term-added c = added-with _ _ (begun c.before.before.before.before).args.coefficient _ c.add-scaled.ensures refl
+    c.add_scaled.new.work ≡ added (begun formed).args.n (begun formed).args.coefficient c.omega_sum.new.work
+term-added c = added-with _ _ (begun c.before.before.before.before).args.coefficient _ c.add_scaled.ensures refl
 
 returns : tie.Need-returns
 returns c =
     let last = c.before.before in
-    let formed = last.before.before.before.before in
+    let formed = c.before.before.before.before.before.before in
     let sum = sum-formed formed in
     let term = term-added last in
-    let second = formed.before.before.before.before in
-    let first = second.before.before.before.before in
-    let start = first.before.before.before.before.before.before.before.before.before in
-    let args = start.args in
-    let room = start.requires.1.1 in
+    let args = c.args in
+    let room = c.requires.1.1 in
     let A = ieee binary64 in
     let n = args.n in
-    let L1 = row_product64 n args.row-ptr1.now args.col-idx1.now args.vals1.now in
-    let L2 = row_product64 n args.row-ptr2.now args.col-idx2.now args.vals2.now in
+    let L1 = row_product64 n args.row_ptr1.now args.col_idx1.now args.vals1.now in
+    let L2 = row_product64 n args.row_ptr2.now args.col_idx2.now args.vals2.now in
     let placed = product-placed A n (5 * n) in
     let a = placed n (2 * n) L1 args.work.now _ (λ x. length-tabulate _ n) room (omega arith) refl in
     let room1 = room-left A n a (5 * n) room in
-    let b = placed n (3 * n) L2 _ _ (λ x. length-tabulate _ n) room1 (omega arith) first.two_products.ensures in
+    let b = placed n (3 * n) L2 _ _ (λ x. length-tabulate _ n) room1 (omega arith) c.two_products.ensures in
     let room2 = room-left A n b (5 * n) room1 in
     let d = placed (3 * n) n L1 _ _ (λ x. length-tabulate _ n) room2 (omega arith) refl in
     let room3 = room-left A n d (5 * n) room2 in
-    let c = placed (2 * n) (4 * n) L2 _ _ (λ x. length-tabulate _ n) room3 (omega arith) second.two-products2.ensures in
+    let c = placed (2 * n) (4 * n) L2 _ _ (λ x. length-tabulate _ n) room3 (omega arith) c.two_products-2.ensures in
     term4-added A n (5 * n) minus_half args.s args.sign args.tau args.coefficient L1 L2
     args.work.now _ _ _ _ _ _ room (omega arith) a b d c sum term
 
-pub taylor-term-spec : {M : Type 1} → statement M
-taylor-term-spec =
+pub taylor_term_spec : {M : Type 1} → statement M
+taylor_term_spec =
     tie.close
     (tie.spec
     mul-a

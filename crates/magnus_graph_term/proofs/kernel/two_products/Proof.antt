@@ -10,35 +10,29 @@ use borrow.Author.Rules.{rules}
 use Rattle.magnus_graph_term.proofs.kernel.two_products.Statement.{statement}
 use Rattle.magnus_graph_term.proofs.kernel.two_products.Tie as tie
 
-product-in-requires : tie.Need-product-in-requires
+product-in-requires : tie.Need-product_in-requires
 product-in-requires c κs =
-    let start = c.before.before.before.before.before.before.before.before in
-    let pre = start.requires in
+    let pre = c.requires in
     (pre.0.pattern, (pre.0.count, pre.1.1.0))
 
-product-in-requires-2 : tie.Need-product-in-requires-2
+product-in-requires-2 : tie.Need-product_in-requires-2
 product-in-requires-2 c κs =
-    let first = c.before.before.before in
-    let start = first.before.before.before.before.before.before.before.before.before in
-    let pre = start.requires in
-    let kept = first.product-in.auto.1.1.1.0 in
+    let pre = c.requires in
+    let kept = c.product_in.auto.work in
     let apart = pre.1.1.1 in
     (pre.1.0.pattern, (pre.1.0.count, (omega (arith, kept, apart.0), omega (arith, kept, apart.1), apart.2)))
 
-same_length : tie.Need-same-length
+same_length : tie.Need-shape_of-work
 same_length c = search rules
 
 returns : tie.Need-returns
 returns c =
-    let second = c.before.before in
-    let first = second.before.before.before.before in
-    let start = first.before.before.before.before.before.before.before.before.before in
-    let args = start.args in
+    let args = c.args in
     let n = args.n in
-    let L2 = row_product64 n args.row-ptr2.now args.col-idx2.now args.vals2.now in
+    let L2 = row_product64 n args.row_ptr2.now args.col_idx2.now args.vals2.now in
     let written : List Float → List Float = λ w. put args.target2 (L2 (part args.source2 n w)) w in
-    second.product-in2.ensures ∙ ap written first.product-in.ensures
+    c.product_in-2.ensures ∙ ap written c.product_in.ensures
 
-pub two-products-spec : {M : Type 1} → statement M
-two-products-spec =
+pub two_products_spec : {M : Type 1} → statement M
+two_products_spec =
     tie.close (tie.spec product-in-requires product-in-requires-2 same_length returns)

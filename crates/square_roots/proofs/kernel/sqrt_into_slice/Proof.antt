@@ -38,6 +38,12 @@ mul-block-into-slice-2 c = omega arith
 sub-block-into-slice-2 : tie.Need-slice_bounds-block_into_slice-count-in-loop-done invariant-loop-done decreases-loop-done
 sub-block-into-slice-2 c = omega arith
 
+part-block-into-slice-start-2 : tie.Need-slice_bounds-block_into_slice-start-in-loop-done invariant-loop-done decreases-loop-done
+part-block-into-slice-start-2 c = omega arith
+
+part-block-into-slice-end-2 : tie.Need-slice_bounds-block_into_slice-end-in-loop-done invariant-loop-done decreases-loop-done
+part-block-into-slice-end-2 c = omega arith
+
 block-into-slice-requires : tie.Need-block_into_slice-requires invariant-loop-done decreases-loop-done
 block-into-slice-requires c κs = simp (length-take, length-drop) (omega arith)
 
@@ -68,6 +74,8 @@ sqrt_into_slice_spec =
     part-block-into-slice-end
     mul-block-into-slice-2
     sub-block-into-slice-2
+    part-block-into-slice-start-2
+    part-block-into-slice-end-2
     block-into-slice-requires
     loop-less
     loop-again

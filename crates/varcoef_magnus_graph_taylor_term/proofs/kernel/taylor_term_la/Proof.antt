@@ -17,71 +17,56 @@ use borrow.Author.Rules.{rules}
 use Rattle.varcoef_magnus_graph_taylor_term.proofs.kernel.taylor_term_la.Statement.{statement}
 use Rattle.varcoef_magnus_graph_taylor_term.proofs.kernel.taylor_term_la.Tie as tie
 
-mul-a : tie.Need-overflow-mul-a
+mul-a : tie.Need-overflow_mul-a
 mul-a c = search rules
 
-mul-b : tie.Need-overflow-mul-b
+mul-b : tie.Need-overflow_mul-b
 mul-b c = search rules
 
-mul-c : tie.Need-overflow-mul-c
+mul-c : tie.Need-overflow_mul-c
 mul-c c = search rules
 
-two-weighted-products-requires : tie.Need-two-weighted-products-requires
+two-weighted-products-requires : tie.Need-two_weighted_products-requires
 two-weighted-products-requires c κs =
-    let start = c.before.before.before.before.before.before.before.before in
-    let pre = start.requires in
+    let pre = c.requires in
     (pre.0, (pre.1.0, (pre.1.1, omega arith)))
 
-two-weighted-products-requires-2 : tie.Need-two-weighted-products-requires-2
+two-weighted-products-requires-2 : tie.Need-two_weighted_products-requires-2
 two-weighted-products-requires-2 c κs =
-    let first = c.before.before.before in
-    let start = first.before.before.before.before.before.before.before.before.before in
-    let pre = start.requires in
-    (pre.0, (pre.1.0, (omega (arith, pre.1.1, first.two-weighted-products.auto.1.1.1.1.1.1.0), omega arith)))
+    let pre = c.requires in
+    (pre.0, (pre.1.0, (omega (arith, pre.1.1, c.two_weighted_products.auto.work), omega arith)))
 
-omega-sum-requires : tie.Need-omega-sum-requires
+omega-sum-requires : tie.Need-omega_sum-requires
 omega-sum-requires c κs =
-    let second = c.before.before.before in
-    let first = second.before.before.before.before in
-    let start = first.before.before.before.before.before.before.before.before.before in
     omega (
       arith,
-      start.requires.1.1,
-      first.two-weighted-products.auto.1.1.1.1.1.1.0,
-      second.two-weighted-products2.auto.1.1.1.1.1.1.0,
+      c.requires.1.1,
+      c.two_weighted_products.auto.work,
+      c.two_weighted_products-2.auto.work,
     )
 
-add-scaled-requires : tie.Need-add-scaled-requires
+add-scaled-requires : tie.Need-add_scaled-requires
 add-scaled-requires c κs =
-    let formed = c.before.before.before in
-    let second = formed.before.before.before.before in
-    let first = second.before.before.before.before in
-    let start = first.before.before.before.before.before.before.before.before.before in
     omega (
       arith,
-      start.requires.1.1,
-      first.two-weighted-products.auto.1.1.1.1.1.1.0,
-      second.two-weighted-products2.auto.1.1.1.1.1.1.0,
-      formed.omega-sum.auto.0,
+      c.requires.1.1,
+      c.two_weighted_products.auto.work,
+      c.two_weighted_products-2.auto.work,
+      c.omega_sum.auto.work,
     )
 
-same_length : tie.Need-same-length
+same_length : tie.Need-shape_of-work
 same_length c = search rules
 
 returns : tie.Need-returns
 unfolding of_bits neg
 returns c =
-    let added = c.before.before in
-    let formed = added.before.before.before.before in
-    let second = formed.before.before.before.before in
-    let first = second.before.before.before.before in
-    let start = first.before.before.before.before.before.before.before.before.before in
-    let args = start.args in
+    let args = c.args in
     let A = ieee binary64 in
     let n = args.n in
     let w = args.work.now in
-    let L1 = row_product64 n args.row-ptr1.now args.col-idx1.now args.vals1.now in
-    let L2 = row_product64 n args.row-ptr2.now args.col-idx2.now args.vals2.now in
+    let L1 = row_product64 n args.row_ptr1.now args.col_idx1.now args.vals1.now in
+    let L2 = row_product64 n args.row_ptr2.now args.col_idx2.now args.vals2.now in
     let r1 = part (6 * n) n w in
     let r2 = part (7 * n) n w in
     let placed1 = weighted-placed A n L1 r1 (6 * n) in
@@ -89,18 +74,18 @@ returns c =
     let a = placed1 n (2 * n) w _ refl (omega arith) (omega arith) (omega arith) refl in
     let room1 = room-left A n a (6 * n) (omega arith) in
     let roots1 = roots_kept A n a (7 * n) (omega arith) refl in
-    let b = placed2 n (3 * n) _ _ roots1 room1 (omega arith) (omega arith) first.two-weighted-products.ensures in
+    let b = placed2 n (3 * n) _ _ roots1 room1 (omega arith) (omega arith) c.two_weighted_products.ensures in
     let room2 = room-left A n b (6 * n) room1 in
     let roots2 = roots_kept A n b (6 * n) (omega arith) (roots_kept A n a (6 * n) (omega arith) refl) in
     let d = placed1 (3 * n) n _ _ roots2 room2 (omega arith) (omega arith) refl in
     let room3 = room-left A n d (6 * n) room2 in
     let roots3 = roots_kept A n d (7 * n) (omega arith) (roots_kept A n b (7 * n) (omega arith) roots1) in
-    let c = placed2 (2 * n) (4 * n) _ _ roots3 room3 (omega arith) (omega arith) second.two-weighted-products2.ensures in
+    let c' = placed2 (2 * n) (4 * n) _ _ roots3 room3 (omega arith) (omega arith) c.two_weighted_products-2.ensures in
     term4-added A n (6 * n) minus_half args.s args.sign args.tau args.coefficient (weighted A n r1 L1) (weighted A n r2 L2)
-    w _ _ _ _ _ _ (omega arith) (omega arith) a b d c formed.omega-sum.ensures added.add-scaled.ensures
+    w _ _ _ _ _ _ (omega arith) (omega arith) a b d c' c.omega_sum.ensures c.add_scaled.ensures
 
-pub taylor-term-la-spec : {M : Type 1} → statement M
-taylor-term-la-spec =
+pub taylor_term_la_spec : {M : Type 1} → statement M
+taylor_term_la_spec =
     tie.close
     (tie.spec
     mul-a
