@@ -48,7 +48,7 @@ def print_answer(text, job):
 def answer_of(program, job_bytes):
     """What the program prints for the job."""
     if not os.path.exists(program):
-        raise NoAnswer(f"there is no program {os.path.normpath(program)}; `rt check job` builds it")
+        raise NoAnswer(f"there is no program {os.path.normpath(program)}; `tools/build job` builds it")
     run = subprocess.run([program], input=job_bytes, stdout=subprocess.PIPE)
     if run.returncode:
         raise NoAnswer(f"the program ended with status {run.returncode}")

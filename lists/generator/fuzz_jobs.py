@@ -196,7 +196,7 @@ def main():
     parser.add_argument("--program", default="target/bin/job")
     chosen = parser.parse_args()
     if not os.access(chosen.program, os.X_OK):
-        sys.exit(f"fuzz_jobs: there is no program {chosen.program}; `rt check job` builds it")
+        sys.exit(f"fuzz_jobs: there is no program {chosen.program}; `tools/build job` builds it")
     with open(LIST, "rb") as file:
         pool = [bytes(case.inputs["job"]) for case in decode(file.read())]
     # Long jobs take long to draw and to answer: most of them stay out of the pool.

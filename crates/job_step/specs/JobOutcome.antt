@@ -1,8 +1,7 @@
 -- The step that a job asks for, and what the job's answer is (01, "The job program"). Assumes nothing.
-use Rattle.std.specs.Prelude.{◌≡◌, cond, List, ℕ, ◌*◌, Float}
+use Rattle.std.specs.Prelude.{cond, List, ℕ, ◌*◌, Float}
 use Rattle.scratch.specs.Parts.{zeros}
 use Rattle.error.specs.Checks.{next}
-use Rattle.error.specs.Refusals.{Answers}
 use Rattle.error.specs.declared.Checked.{Checked}
 use Rattle.magnus_graph_faults.specs.StepChecks.{Sample, sample}
 use Rattle.magnus_graph_outcome.specs.StepOutcome.{StepInput, step_input, step_answer, step_output, forward, adjoint}

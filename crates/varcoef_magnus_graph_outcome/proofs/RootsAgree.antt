@@ -1,10 +1,9 @@
 -- Roots of weights that agree: the square root respects equality up to the sign of a zero. Assumes nothing.
 use mathlib.Core.Path.{◌≡◌, refl, sym, ap, ◌∙◌, subst}
-use mathlib.Core.Logic.{◌⊎◌, inl, inr}
+use mathlib.Core.Logic.{inl, inr}
 use mathlib.Core.List.{List, [], ◌∷◌, map}
 use Prim.Native.Nat.{ℕ, zero, suc}
-use native.Mathlib.Omega.{arith}
-use lib.ListN.{length, get_or, length-map}
+use lib.ListN.{get_or, length-map}
 use lib.Ieee.{Float, nan, inf, fin, Format}
 use Rattle.rounding.specs.SignOfZero.{Zero, Same}
 use Rattle.rounding.proofs.SignOfZero.{same-is}

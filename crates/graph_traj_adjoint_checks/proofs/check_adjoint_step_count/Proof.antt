@@ -5,13 +5,13 @@ use Rattle.graph_traj_adjoint_faults.specs.AdjointRunChecks.{adjoint_step_count_
 use Rattle.graph_traj_adjoint_checks.proofs.check_adjoint_step_count.Statement.{statement}
 use Rattle.graph_traj_adjoint_checks.proofs.check_adjoint_step_count.Tie as tie
 
-returns : tie.Need-returns
+returns : tie.Need-returns-then-steps-gt65535
 unfolding adjoint_step_count_fault
-returns c = refuses _ _ (lt-ltb _ _ c.if1.true)
+returns c = refuses _ _ (lt-ltb _ _ c.if-steps-gt65535.true)
 
-returns-2 : tie.Need-returns-2
+returns-2 : tie.Need-returns-else-steps-gt65535
 unfolding adjoint_step_count_fault
-returns-2 c = accepts _ _ (le-ltb _ _ c.if1.false)
+returns-2 c = accepts _ _ (le-ltb _ _ c.if-steps-gt65535.false)
 
-pub check-adjoint-step-count-spec : {M : Type 1} → statement M
-check-adjoint-step-count-spec = tie.close (tie.spec returns returns-2)
+pub check_adjoint_step_count_spec : {M : Type 1} → statement M
+check_adjoint_step_count_spec = tie.close (tie.spec returns returns-2)

@@ -5,32 +5,31 @@ use Rattle.graph_traj_adjoint_faults.specs.AdjointRunChecks.{adjoint_steps_fault
 use Rattle.graph_traj_adjoint_checks.proofs.check_adjoint_steps.Statement.{statement}
 use Rattle.graph_traj_adjoint_checks.proofs.check_adjoint_steps.Tie as tie
 
-check-adjoint-step-count-requires : tie.Need-check-adjoint-step-count-requires
+check-adjoint-step-count-requires : tie.Need-check_adjoint_step_count-count-requires
 check-adjoint-step-count-requires c κs = search rules
 
-enum_told : tie.Need-enum-told
+enum_told : tie.Need-enum_told-1
 enum_told c = search rules
 
-enum-told-2 : tie.Need-enum-told-2
+enum-told-2 : tie.Need-enum_told-in_default
 enum-told-2 c = search rules
 
-returns : tie.Need-returns
+returns : tie.Need-returns-in_default
 unfolding adjoint_steps_fault
 returns c =
-    refused-here _ _ _ _ c.before.before.check-adjoint-step-count.ensures c.enum-told2.given.1
+    refused-here _ _ _ _ c.check_adjoint_step_count-count.ensures c.in_default.is
 
-check-step-length-requires : tie.Need-check-step-length-requires
+check-step-length-requires : tie.Need-check_step_length-requires
 check-step-length-requires c κs = search rules
 
-returns-2 : tie.Need-returns-2
+returns-2 : tie.Need-returns
 unfolding adjoint_steps_fault
 returns-2 c =
-    let count = c.before in
-    accepted-then _ _ _ _ count.before.before.check-adjoint-step-count.ensures count.enum_told.given.1
-    c.check-step-length.ensures
+    accepted-then _ _ _ _ c.check_adjoint_step_count-count.ensures c.in-Accepted.is
+    c.check_step_length.ensures
 
-pub check-adjoint-steps-spec : {M : Type 1} → statement M
-check-adjoint-steps-spec =
+pub check_adjoint_steps_spec : {M : Type 1} → statement M
+check_adjoint_steps_spec =
     tie.close
     (tie.spec
     check-adjoint-step-count-requires

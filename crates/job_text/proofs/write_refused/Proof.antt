@@ -28,32 +28,28 @@ whole h word number values row l byte =
     (some (refused (rw (number, values) at row.holds))
     (placed-append word (placed-append row.placed byte)))
 
-slice-aggregate-put-bytes : tie.Need-slice-aggregate-put-bytes
-slice-aggregate-put-bytes c = search rules
-
-put-bytes-requires : tie.Need-put-bytes-requires
+put-bytes-requires : tie.Need-put_bytes-word-requires
 put-bytes-requires c κs = search rules
 
-row-of-requires : tie.Need-row-of-requires
+row-of-requires : tie.Need-row_of-requires
 row-of-requires c κs = search rules
 
-put-row-requires : tie.Need-put-row-requires
+put-row-requires : tie.Need-put_row-last-requires
 put-row-requires c κs = search rules
 
-put-byte-requires : tie.Need-put-byte-requires
+put-byte-requires : tie.Need-put_byte-requires
 put-byte-requires c κs = search rules
 
 returns : tie.Need-returns
 returns c =
-    let known = c.before.before.before.row_of.ensures in
-    let row = c.before.before.put-row.ensures in
-    whole (omega arith) c.before.before.before.before.before.put-bytes.ensures known.0 known.1 row.0 row.1 c.put_byte.ensures
+    let known = c.row_of.ensures in
+    let row = c.put_row-last.ensures in
+    whole (omega arith) c.put_bytes-word.ensures known.0 known.1 row.0 row.1 c.put_byte.ensures
 
-pub write-refused-spec : {M : Type 1} → statement M
-write-refused-spec =
+pub write_refused_spec : {M : Type 1} → statement M
+write_refused_spec =
     tie.close
     (tie.spec
-    slice-aggregate-put-bytes
     put-bytes-requires
     row-of-requires
     put-row-requires

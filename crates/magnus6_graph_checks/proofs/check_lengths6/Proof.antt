@@ -7,31 +7,30 @@ use Rattle.magnus6_graph_faults.specs.Step6Checks.{lengths6_fault}
 use Rattle.magnus6_graph_checks.proofs.check_lengths6.Statement.{statement}
 use Rattle.magnus6_graph_checks.proofs.check_lengths6.Tie as tie
 
-check-length-requires : tie.Need-check-length-requires
+check-length-requires : tie.Need-check_length-nodes-requires
 check-length-requires c κs = search rules
 
-enum_told : tie.Need-enum-told
+enum_told : tie.Need-enum_told-1
 enum_told c = search rules
 
-enum-told-2 : tie.Need-enum-told-2
+enum-told-2 : tie.Need-enum_told-in_default
 enum-told-2 c = search rules
 
-returns : tie.Need-returns
+returns : tie.Need-returns-in_default
 unfolding lengths6_fault
-returns c = refused-here _ _ _ _ (fault-is c.before.before.check-length.ensures) c.enum-told2.given.1
+returns c = refused-here _ _ _ _ (fault-is c.check_length-nodes.ensures) c.in_default.is
 
-check-lengths-requires : tie.Need-check-lengths-requires
+check-lengths-requires : tie.Need-check_lengths-requires
 check-lengths-requires c κs = search rules
 
-returns-2 : tie.Need-returns-2
+returns-2 : tie.Need-returns
 unfolding lengths6_fault
 returns-2 c =
-    let nodes = c.before in
-    accepted-then _ _ _ _ (fault-is nodes.before.before.check-length.ensures) nodes.enum_told.given.1
-    c.check-lengths.ensures
+    accepted-then _ _ _ _ (fault-is c.check_length-nodes.ensures) c.in-Accepted.is
+    c.check_lengths.ensures
 
-pub check-lengths6-spec : {M : Type 1} → statement M
-check-lengths6-spec =
+pub check_lengths6_spec : {M : Type 1} → statement M
+check_lengths6_spec =
     tie.close
     (tie.spec
     check-length-requires

@@ -8,32 +8,31 @@ use Rattle.magnus6_graph_faults.specs.Step6Checks.{samples6_fault}
 use Rattle.magnus6_graph_checks.proofs.check_samples6.Statement.{statement}
 use Rattle.magnus6_graph_checks.proofs.check_samples6.Tie as tie
 
-check-samples-requires : tie.Need-check-samples-requires
+check-samples-requires : tie.Need-check_samples-two-requires
 check-samples-requires c κs = search rules
 
-enum_told : tie.Need-enum-told
+enum_told : tie.Need-enum_told-1
 enum_told c = search rules
 
-enum-told-2 : tie.Need-enum-told-2
+enum-told-2 : tie.Need-enum_told-in_default
 enum-told-2 c = search rules
 
-returns : tie.Need-returns
+returns : tie.Need-returns-in_default
 unfolding samples6_fault sample_fault
 returns c =
-    refused-here _ _ _ _ c.before.before.check-samples.ensures c.enum-told2.given.1
+    refused-here _ _ _ _ c.check_samples-two.ensures c.in_default.is
 
-from-csr-parts-requires : tie.Need-from-csr-parts-requires
+from-csr-parts-requires : tie.Need-from_csr_parts-requires
 from-csr-parts-requires c κs = search rules
 
-returns-2 : tie.Need-returns-2
+returns-2 : tie.Need-returns
 unfolding samples6_fault sample_fault
 returns-2 c =
-    let two = c.before in
-    accepted-then _ _ _ _ two.before.before.check-samples.ensures two.enum_told.given.1
-    (fault-is c.from-csr-parts.ensures)
+    accepted-then _ _ _ _ c.check_samples-two.ensures c.in-Accepted.is
+    (fault-is c.from_csr_parts.ensures)
 
-pub check-samples6-spec : {M : Type 1} → statement M
-check-samples6-spec =
+pub check_samples6_spec : {M : Type 1} → statement M
+check_samples6_spec =
     tie.close
     (tie.spec
     check-samples-requires

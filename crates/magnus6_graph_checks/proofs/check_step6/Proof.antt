@@ -8,98 +8,87 @@ use Rattle.magnus6_graph_faults.proofs.Step6Sound.{few-nodes6}
 use Rattle.magnus6_graph_checks.proofs.check_step6.Statement.{statement}
 use Rattle.magnus6_graph_checks.proofs.check_step6.Tie as tie
 
-check-samples6-requires : tie.Need-check-samples6-requires
+check-samples6-requires : tie.Need-check_samples6-samples-requires
 check-samples6-requires c κs = search rules
 
-enum_told : tie.Need-enum-told
+enum_told : tie.Need-enum_told-1
 enum_told c = search rules
 
-enum-told-2 : tie.Need-enum-told-2
+enum-told-2 : tie.Need-enum_told-in_default
 enum-told-2 c = search rules
 
-returns : tie.Need-returns
+returns : tie.Need-returns-in_default
 unfolding step6_fault
 returns c =
-    refused-here _ _ _ _ c.before.before.check-samples6.ensures c.enum-told2.given.1
+    refused-here _ _ _ _ c.check_samples6-samples.ensures c.in_default.is
 
-check-bound-requires : tie.Need-check-bound-requires
+check-bound-requires : tie.Need-check_bound-bound-requires
 check-bound-requires c κs = search rules
 
-enum-told-3 : tie.Need-enum-told-3
+enum-told-3 : tie.Need-enum_told-in-Accepted-bound
 enum-told-3 c = search rules
 
-enum-told-4 : tie.Need-enum-told-4
+enum-told-4 : tie.Need-enum_told-in_default-bound
 enum-told-4 c = search rules
 
-returns-2 : tie.Need-returns-2
+returns-2 : tie.Need-returns-in_default-bound
 unfolding step6_fault
 returns-2 c =
-    let samples = c.before.before.before in
-    accepted-then _ _ _ _ samples.before.before.check-samples6.ensures samples.enum_told.given.1
-    (refused-here _ _ _ _ c.before.before.check-bound.ensures c.enum-told4.given.1)
+    accepted-then _ _ _ _ c.check_samples6-samples.ensures c.in-Accepted.is
+    (refused-here _ _ _ _ c.check_bound-bound.ensures c.in_default-bound.is)
 
-check-step-length-requires : tie.Need-check-step-length-requires
+check-step-length-requires : tie.Need-check_step_length-step_length-requires
 check-step-length-requires c κs = search rules
 
-enum-told-5 : tie.Need-enum-told-5
+enum-told-5 : tie.Need-enum_told-in-Accepted-step_length
 enum-told-5 c = search rules
 
-enum-told-6 : tie.Need-enum-told-6
+enum-told-6 : tie.Need-enum_told-in_default-step_length
 enum-told-6 c = search rules
 
-returns-3 : tie.Need-returns-3
+returns-3 : tie.Need-returns-in_default-step_length
 unfolding step6_fault
 returns-3 c =
-    let bound = c.before.before.before in
-    let samples = bound.before.before.before in
-    accepted-then _ _ _ _ samples.before.before.check-samples6.ensures samples.enum_told.given.1
-    (accepted-then _ _ _ _ bound.before.before.check-bound.ensures bound.enum-told3.given.1
-    (refused-here _ _ _ _ c.before.before.check-step-length.ensures c.enum-told6.given.1))
+    accepted-then _ _ _ _ c.check_samples6-samples.ensures c.in-Accepted.is
+    (accepted-then _ _ _ _ c.check_bound-bound.ensures c.in-Accepted-bound.is
+    (refused-here _ _ _ _ c.check_step_length-step_length.ensures c.in_default-step_length.is))
 
-check-lengths6-requires : tie.Need-check-lengths6-requires
+check-lengths6-requires : tie.Need-check_lengths6-lengths-requires
 check-lengths6-requires c κs = search rules
 
-enum-told-7 : tie.Need-enum-told-7
+enum-told-7 : tie.Need-enum_told-in-Accepted-lengths
 enum-told-7 c = search rules
 
-enum-told-8 : tie.Need-enum-told-8
+enum-told-8 : tie.Need-enum_told-in_default-lengths
 enum-told-8 c = search rules
 
-returns-4 : tie.Need-returns-4
+returns-4 : tie.Need-returns-in_default-lengths
 unfolding step6_fault
 returns-4 c =
-    let step = c.before.before.before in
-    let bound = step.before.before.before in
-    let samples = bound.before.before.before in
-    accepted-then _ _ _ _ samples.before.before.check-samples6.ensures samples.enum_told.given.1
-    (accepted-then _ _ _ _ bound.before.before.check-bound.ensures bound.enum-told3.given.1
-    (accepted-then _ _ _ _ step.before.before.check-step-length.ensures step.enum-told5.given.1
-    (refused-here _ _ _ _ c.before.before.check-lengths6.ensures c.enum-told8.given.1)))
+    accepted-then _ _ _ _ c.check_samples6-samples.ensures c.in-Accepted.is
+    (accepted-then _ _ _ _ c.check_bound-bound.ensures c.in-Accepted-bound.is
+    (accepted-then _ _ _ _ c.check_step_length-step_length.ensures c.in-Accepted-step_length.is
+    (refused-here _ _ _ _ c.check_lengths6-lengths.ensures c.in_default-lengths.is)))
 
-mul-check-room : tie.Need-overflow-mul-check-room
+mul-check-room : tie.Need-overflow_mul-n1
 mul-check-room c =
-    let samples = c.before.before.before.before.before.before.before.before.before in
-    let few = few-nodes6 _ _ _ samples.before.before.check-samples6.ensures samples.enum_told.given.1 in
+    let few = few-nodes6 _ _ _ c.check_samples6-samples.ensures c.in-Accepted.is in
     omega arith
 
-check-room-requires : tie.Need-check-room-requires
+check-room-requires : tie.Need-check_room-requires
 check-room-requires c κs = search rules
 
-returns-5 : tie.Need-returns-5
+returns-5 : tie.Need-returns
 unfolding step6_fault
 returns-5 c =
-    let lengths = c.before in
-    let step = lengths.before.before.before in
-    let bound = step.before.before.before in
-    let samples = bound.before.before.before in
-    accepted-then _ _ _ _ samples.before.before.check-samples6.ensures samples.enum_told.given.1
-    (accepted-then _ _ _ _ bound.before.before.check-bound.ensures bound.enum-told3.given.1
-    (accepted-then _ _ _ _ step.before.before.check-step-length.ensures step.enum-told5.given.1
-    (accepted-then _ _ _ _ lengths.before.before.check-lengths6.ensures lengths.enum-told7.given.1
-    c.check-room.ensures)))
+    accepted-then _ _ _ _ c.check_samples6-samples.ensures c.in-Accepted.is
+    (accepted-then _ _ _ _ c.check_bound-bound.ensures c.in-Accepted-bound.is
+    (accepted-then _ _ _ _ c.check_step_length-step_length.ensures c.in-Accepted-step_length.is
+    (accepted-then _ _ _ _ c.check_lengths6-lengths.ensures c.in-Accepted-lengths.is
+    c.check_room.ensures)))
 
-pub check-step6-spec : {M : Type 1} → statement M
-check-step6-spec =
+pub check_step6_spec : {M : Type 1} → statement M
+check_step6_spec =
     tie.close
     (tie.spec
     check-samples6-requires

@@ -13,43 +13,42 @@ use Rattle.magnus_graph.proofs.step.Tie as tie
 abbrev lent : tie.Start → StepInput
 lent c =
     let a = c.args in
-    step_input (sample a.n1 a.row-ptr1.now a.col-idx1.now a.vals1.now)
-    (sample a.n2 a.row-ptr2.now a.col-idx2.now a.vals2.now)
-    a.tau a.rho-bar-max a.convergence-radius-check a.src.now a.dst.now a.work.now
+    step_input (sample a.n1 a.row_ptr1.now a.col_idx1.now a.vals1.now)
+    (sample a.n2 a.row_ptr2.now a.col_idx2.now a.vals2.now)
+    a.tau a.rho_bar_max a.convergence_radius_check a.src.now a.dst.now a.work.now
 
-check-step-requires : tie.Need-check-step-requires
+check-step-requires : tie.Need-check_step-checked-requires
 check-step-requires c κs = search rules
 
-enum_told : tie.Need-enum-told
+enum_told : tie.Need-enum_told-1
 enum_told c = search rules
 
-enum-told-2 : tie.Need-enum-told-2
+enum-told-2 : tie.Need-enum_told-in_default
 enum-told-2 c = search rules
 
-returns : tie.Need-returns
-returns c = step-refused _ _ c.before.before.check-step.ensures c.enum-told2.given.1
+returns : tie.Need-returns-in_default
+returns c = step-refused _ _ c.check_step-checked.ensures c.in_default.is
 
 step4-requires : tie.Need-step4-requires
 step4-requires c κs =
-    let start = c.before.before.before.before.before.before.before.before.before.before.before.before.before.before in
-    kernel-asks start.args.sign (lent start) c.before.before.before.before.check-step.ensures c.before.before.enum_told.given.1
+    let start = c.before.before.before.before.before.before.before.before.before.before.before.before.before in
+    kernel-asks c.args.sign (lent start) c.check_step-checked.ensures c.in-Accepted.is
 
-same_length : tie.Need-same-length
+same_length : tie.Need-shape_of-dst
 same_length c = search rules
 
-same-length-2 : tie.Need-same-length-2
+same-length-2 : tie.Need-shape_of-work
 same-length-2 c = search rules
 
-returns-2 : tie.Need-returns-2
+returns-2 : tie.Need-returns
 returns-2 c =
-    let start = c.before.before.before.before.before.before.before.before.before.before.before.before.before.before.before.before.before.before.before in
-    let checked = c.before.before.before.before.before.before.before in
-    step-taken start.args.sign (lent start) checked.before.before.check-step.ensures checked.enum_told.given.1
-    c.before.before.before.before.step4.ensures.0
-    c.before.before.before.before.step4.ensures.1
-    c.before.before.before.before.before.before.before.before.before.before.before.before.before.before.before.before.shared-slice-known3.given
-    c.before.before.before.before.before.before.before.before.before.before.before.before.before.shared-slice-known6.given
-    (subst T (sym start.well-formed.1.1.1.1.1.1.1.1.1.0.1) tt)
+    let start = c.before.before.before.before.before.before.before.before.before.before.before.before.before.before.before.before.before.before in
+    step-taken c.args.sign (lent start) c.check_step-checked.ensures c.in-Accepted.is
+    c.step4.ensures.0
+    c.step4.ensures.1
+    c.shared_slice_known-3-1.given
+    c.shared_slice_known-6-1.given
+    (subst T (sym c.well_formed.1.1.1.1.1.1.1.1.1.0.1) tt)
 
 pub step_spec : {M : Type 1} → statement M
 step_spec =

@@ -6,14 +6,14 @@ use Rattle.varcoef_magnus_graph.proofs.apply_exp_omega4_la_adj_kernel.Tie as tie
 step-requires : tie.Need-step-requires
 step-requires c κs = search rules
 
-same_length : tie.Need-same-length
+same_length : tie.Need-shape_of-dst
 same_length c = search rules
 
-same-length-2 : tie.Need-same-length-2
+same-length-2 : tie.Need-shape_of-work
 same-length-2 c = search rules
 
 returns : tie.Need-returns
-returns c = c.before.before.before.before.step.ensures
+returns c = c.step.ensures
 
-pub apply-exp-omega4-la-adj-kernel-spec : {M : Type 1} → statement M
-apply-exp-omega4-la-adj-kernel-spec = tie.close (tie.spec step-requires same_length same-length-2 returns)
+pub apply_exp_omega4_la_adj_kernel_spec : {M : Type 1} → statement M
+apply_exp_omega4_la_adj_kernel_spec = tie.close (tie.spec step-requires same_length same-length-2 returns)

@@ -8,149 +8,126 @@ use Rattle.magnus_graph_faults.proofs.StepSound.{few-nodes}
 use Rattle.varcoef_magnus_graph_step_checks.proofs.check_weighted_step.Statement.{statement}
 use Rattle.varcoef_magnus_graph_step_checks.proofs.check_weighted_step.Tie as tie
 
-check-samples-requires : tie.Need-check-samples-requires
+check-samples-requires : tie.Need-check_samples-samples-requires
 check-samples-requires c κs = search rules
 
-enum_told : tie.Need-enum-told
+enum_told : tie.Need-enum_told-1
 enum_told c = search rules
 
-enum-told-2 : tie.Need-enum-told-2
+enum-told-2 : tie.Need-enum_told-in_default
 enum-told-2 c = search rules
 
-returns : tie.Need-returns
+returns : tie.Need-returns-in_default
 unfolding weighted_step_fault
 returns c =
-    refused-here _ _ _ _ c.before.before.check-samples.ensures c.enum-told2.given.1
+    refused-here _ _ _ _ c.check_samples-samples.ensures c.in_default.is
 
-check-weighted-bounds-requires : tie.Need-check-weighted-bounds-requires
+check-weighted-bounds-requires : tie.Need-check_weighted_bounds-bounds-requires
 check-weighted-bounds-requires c κs = search rules
 
-enum-told-3 : tie.Need-enum-told-3
+enum-told-3 : tie.Need-enum_told-in-Accepted-bounds
 enum-told-3 c = search rules
 
-enum-told-4 : tie.Need-enum-told-4
+enum-told-4 : tie.Need-enum_told-in_default-bounds
 enum-told-4 c = search rules
 
-returns-2 : tie.Need-returns-2
+returns-2 : tie.Need-returns-in_default-bounds
 unfolding weighted_step_fault
 returns-2 c =
-    let samples = c.before.before.before in
-    accepted-then _ _ _ _ samples.before.before.check-samples.ensures samples.enum_told.given.1
-    (refused-here _ _ _ _ c.before.before.check-weighted-bounds.ensures c.enum-told4.given.1)
+    accepted-then _ _ _ _ c.check_samples-samples.ensures c.in-Accepted.is
+    (refused-here _ _ _ _ c.check_weighted_bounds-bounds.ensures c.in_default-bounds.is)
 
-check-step-length-requires : tie.Need-check-step-length-requires
+check-step-length-requires : tie.Need-check_step_length-step_length-requires
 check-step-length-requires c κs = search rules
 
-enum-told-5 : tie.Need-enum-told-5
+enum-told-5 : tie.Need-enum_told-in-Accepted-step_length
 enum-told-5 c = search rules
 
-enum-told-6 : tie.Need-enum-told-6
+enum-told-6 : tie.Need-enum_told-in_default-step_length
 enum-told-6 c = search rules
 
-returns-3 : tie.Need-returns-3
+returns-3 : tie.Need-returns-in_default-step_length
 unfolding weighted_step_fault weighted_bound
 returns-3 c =
-    let bounds = c.before.before.before in
-    let samples = bounds.before.before.before in
-    accepted-then _ _ _ _ samples.before.before.check-samples.ensures samples.enum_told.given.1
-    (accepted-then _ _ _ _ bounds.before.before.check-weighted-bounds.ensures bounds.enum-told3.given.1
-    (refused-here _ _ _ _ c.before.before.check-step-length.ensures c.enum-told6.given.1))
+    accepted-then _ _ _ _ c.check_samples-samples.ensures c.in-Accepted.is
+    (accepted-then _ _ _ _ c.check_weighted_bounds-bounds.ensures c.in-Accepted-bounds.is
+    (refused-here _ _ _ _ c.check_step_length-step_length.ensures c.in_default-step_length.is))
 
-check-lengths-requires : tie.Need-check-lengths-requires
+check-lengths-requires : tie.Need-check_lengths-lengths-requires
 check-lengths-requires c κs = search rules
 
-enum-told-7 : tie.Need-enum-told-7
+enum-told-7 : tie.Need-enum_told-in-Accepted-lengths
 enum-told-7 c = search rules
 
-enum-told-8 : tie.Need-enum-told-8
+enum-told-8 : tie.Need-enum_told-in_default-lengths
 enum-told-8 c = search rules
 
-returns-4 : tie.Need-returns-4
+returns-4 : tie.Need-returns-in_default-lengths
 unfolding weighted_step_fault weighted_bound
 returns-4 c =
-    let step = c.before.before.before in
-    let bounds = step.before.before.before in
-    let samples = bounds.before.before.before in
-    accepted-then _ _ _ _ samples.before.before.check-samples.ensures samples.enum_told.given.1
-    (accepted-then _ _ _ _ bounds.before.before.check-weighted-bounds.ensures bounds.enum-told3.given.1
-    (accepted-then _ _ _ _ step.before.before.check-step-length.ensures step.enum-told5.given.1
-    (refused-here _ _ _ _ c.before.before.check-lengths.ensures c.enum-told8.given.1)))
+    accepted-then _ _ _ _ c.check_samples-samples.ensures c.in-Accepted.is
+    (accepted-then _ _ _ _ c.check_weighted_bounds-bounds.ensures c.in-Accepted-bounds.is
+    (accepted-then _ _ _ _ c.check_step_length-step_length.ensures c.in-Accepted-step_length.is
+    (refused-here _ _ _ _ c.check_lengths-lengths.ensures c.in_default-lengths.is)))
 
-check-weights-length-requires : tie.Need-check-weights-length-requires
+check-weights-length-requires : tie.Need-check_weights_length-weights-requires
 check-weights-length-requires c κs = search rules
 
-enum-told-9 : tie.Need-enum-told-9
+enum-told-9 : tie.Need-enum_told-in-Accepted-weights
 enum-told-9 c = search rules
 
-enum-told-10 : tie.Need-enum-told-10
+enum-told-10 : tie.Need-enum_told-in_default-weights
 enum-told-10 c = search rules
 
-returns-5 : tie.Need-returns-5
+returns-5 : tie.Need-returns-in_default-weights
 unfolding weighted_step_fault weighted_bound
 returns-5 c =
-    let lengths = c.before.before.before in
-    let step = lengths.before.before.before in
-    let bounds = step.before.before.before in
-    let samples = bounds.before.before.before in
-    accepted-then _ _ _ _ samples.before.before.check-samples.ensures samples.enum_told.given.1
-    (accepted-then _ _ _ _ bounds.before.before.check-weighted-bounds.ensures bounds.enum-told3.given.1
-    (accepted-then _ _ _ _ step.before.before.check-step-length.ensures step.enum-told5.given.1
-    (accepted-then _ _ _ _ lengths.before.before.check-lengths.ensures lengths.enum-told7.given.1
-    (refused-here _ _ _ _ c.before.before.check-weights-length.ensures c.enum-told10.given.1))))
+    accepted-then _ _ _ _ c.check_samples-samples.ensures c.in-Accepted.is
+    (accepted-then _ _ _ _ c.check_weighted_bounds-bounds.ensures c.in-Accepted-bounds.is
+    (accepted-then _ _ _ _ c.check_step_length-step_length.ensures c.in-Accepted-step_length.is
+    (accepted-then _ _ _ _ c.check_lengths-lengths.ensures c.in-Accepted-lengths.is
+    (refused-here _ _ _ _ c.check_weights_length-weights.ensures c.in_default-weights.is))))
 
-mul-check-room : tie.Need-overflow-mul-check-room
+mul-check-room : tie.Need-overflow_mul-n1
 mul-check-room c =
-    let step = c.before.before.before.before.before.before in
-    let samples = step.before.before.before.before.before.before in
-    let few = few-nodes _ _ samples.before.before.check-samples.ensures samples.enum_told.given.1 in
+    let few = few-nodes _ _ c.check_samples-samples.ensures c.in-Accepted.is in
     omega arith
 
-check-room-requires : tie.Need-check-room-requires
+check-room-requires : tie.Need-check_room-room-requires
 check-room-requires c κs = search rules
 
-enum-told-11 : tie.Need-enum-told-11
+enum-told-11 : tie.Need-enum_told-in-Accepted-room
 enum-told-11 c = search rules
 
-enum-told-12 : tie.Need-enum-told-12
+enum-told-12 : tie.Need-enum_told-in_default-room
 enum-told-12 c = search rules
 
-returns-6 : tie.Need-returns-6
+returns-6 : tie.Need-returns-in_default-room
 unfolding weighted_step_fault weighted_bound
 returns-6 c =
-    let weights = c.before.before.before in
-    let lengths = weights.before.before.before in
-    let step = lengths.before.before.before in
-    let bounds = step.before.before.before in
-    let samples = bounds.before.before.before in
-    accepted-then _ _ _ _ samples.before.before.check-samples.ensures samples.enum_told.given.1
-    (accepted-then _ _ _ _ bounds.before.before.check-weighted-bounds.ensures bounds.enum-told3.given.1
-    (accepted-then _ _ _ _ step.before.before.check-step-length.ensures step.enum-told5.given.1
-    (accepted-then _ _ _ _ lengths.before.before.check-lengths.ensures lengths.enum-told7.given.1
-    (accepted-then _ _ _ _ weights.before.before.check-weights-length.ensures weights.enum-told9.given.1
-    (refused-here _ _ _ _ c.before.before.check-room.ensures c.enum-told12.given.1)))))
+    accepted-then _ _ _ _ c.check_samples-samples.ensures c.in-Accepted.is
+    (accepted-then _ _ _ _ c.check_weighted_bounds-bounds.ensures c.in-Accepted-bounds.is
+    (accepted-then _ _ _ _ c.check_step_length-step_length.ensures c.in-Accepted-step_length.is
+    (accepted-then _ _ _ _ c.check_lengths-lengths.ensures c.in-Accepted-lengths.is
+    (accepted-then _ _ _ _ c.check_weights_length-weights.ensures c.in-Accepted-weights.is
+    (refused-here _ _ _ _ c.check_room-room.ensures c.in_default-room.is)))))
 
-check-weights-requires : tie.Need-check-weights-requires
+check-weights-requires : tie.Need-check_weights-requires
 check-weights-requires c κs = search rules
 
-returns-7 : tie.Need-returns-7
+returns-7 : tie.Need-returns
 unfolding weighted_step_fault weighted_bound
 returns-7 c =
-    let room = c.before in
-    let weights = room.before.before.before in
-    let lengths = weights.before.before.before in
-    let step = lengths.before.before.before in
-    let bounds = step.before.before.before in
-    let samples = bounds.before.before.before in
-    accepted-then _ _ _ _ samples.before.before.check-samples.ensures samples.enum_told.given.1
-    (accepted-then _ _ _ _ bounds.before.before.check-weighted-bounds.ensures bounds.enum-told3.given.1
-    (accepted-then _ _ _ _ step.before.before.check-step-length.ensures step.enum-told5.given.1
-    (accepted-then _ _ _ _ lengths.before.before.check-lengths.ensures lengths.enum-told7.given.1
-    (accepted-then _ _ _ _ weights.before.before.check-weights-length.ensures weights.enum-told9.given.1
-    (accepted-then _ _ _ _ room.before.before.check-room.ensures room.enum-told11.given.1
-    c.check-weights.ensures)))))
+    accepted-then _ _ _ _ c.check_samples-samples.ensures c.in-Accepted.is
+    (accepted-then _ _ _ _ c.check_weighted_bounds-bounds.ensures c.in-Accepted-bounds.is
+    (accepted-then _ _ _ _ c.check_step_length-step_length.ensures c.in-Accepted-step_length.is
+    (accepted-then _ _ _ _ c.check_lengths-lengths.ensures c.in-Accepted-lengths.is
+    (accepted-then _ _ _ _ c.check_weights_length-weights.ensures c.in-Accepted-weights.is
+    (accepted-then _ _ _ _ c.check_room-room.ensures c.in-Accepted-room.is
+    c.check_weights.ensures)))))
 
-pub check-weighted-step-spec : {M : Type 1} → statement M
-check-weighted-step-spec =
+pub check_weighted_step_spec : {M : Type 1} → statement M
+check_weighted_step_spec =
     tie.close
     (tie.spec
     check-samples-requires

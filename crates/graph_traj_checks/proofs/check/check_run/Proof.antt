@@ -10,142 +10,122 @@ use Rattle.graph_traj_faults.proofs.RunSound.{step-count-accepted}
 use Rattle.graph_traj_checks.proofs.check.check_run.Statement.{statement}
 use Rattle.graph_traj_checks.proofs.check.check_run.Tie as tie
 
-check-trajectory-requires : tie.Need-check-trajectory-requires
+check-trajectory-requires : tie.Need-check_trajectory-along-requires
 check-trajectory-requires c κs = search rules
 
-enum_told : tie.Need-enum-told
+enum_told : tie.Need-enum_told-1
 enum_told c = search rules
 
-enum-told-2 : tie.Need-enum-told-2
+enum-told-2 : tie.Need-enum_told-in_default
 enum-told-2 c = search rules
 
-returns : tie.Need-returns
+returns : tie.Need-returns-in_default
 unfolding run_fault
 returns c =
-    refused-here _ _ _ _ c.before.before.check-trajectory.ensures c.enum-told2.given.1
+    refused-here _ _ _ _ c.check_trajectory-along.ensures c.in_default.is
 
-check-bound-requires : tie.Need-check-bound-requires
+check-bound-requires : tie.Need-check_bound-bound-requires
 check-bound-requires c κs = search rules
 
-enum-told-3 : tie.Need-enum-told-3
+enum-told-3 : tie.Need-enum_told-in-Accepted-bound
 enum-told-3 c = search rules
 
-enum-told-4 : tie.Need-enum-told-4
+enum-told-4 : tie.Need-enum_told-in_default-bound
 enum-told-4 c = search rules
 
-returns-2 : tie.Need-returns-2
+returns-2 : tie.Need-returns-in_default-bound
 unfolding run_fault
 returns-2 c =
-    let along = c.before.before.before in
-    accepted-then _ _ _ _ along.before.before.check-trajectory.ensures along.enum_told.given.1
-    (refused-here _ _ _ _ c.before.before.check-bound.ensures c.enum-told4.given.1)
+    accepted-then _ _ _ _ c.check_trajectory-along.ensures c.in-Accepted.is
+    (refused-here _ _ _ _ c.check_bound-bound.ensures c.in_default-bound.is)
 
-check-step-count-requires : tie.Need-check-step-count-requires
+check-step-count-requires : tie.Need-check_step_count-count-requires
 check-step-count-requires c κs = search rules
 
-enum-told-5 : tie.Need-enum-told-5
+enum-told-5 : tie.Need-enum_told-in-Accepted-count
 enum-told-5 c = search rules
 
-enum-told-6 : tie.Need-enum-told-6
+enum-told-6 : tie.Need-enum_told-in_default-count
 enum-told-6 c = search rules
 
-returns-3 : tie.Need-returns-3
+returns-3 : tie.Need-returns-in_default-count
 unfolding run_fault
 returns-3 c =
-    let bound = c.before.before.before in
-    let along = bound.before.before.before in
-    accepted-then _ _ _ _ along.before.before.check-trajectory.ensures along.enum_told.given.1
-    (accepted-then _ _ _ _ bound.before.before.check-bound.ensures bound.enum-told3.given.1
-    (refused-here _ _ _ _ c.before.before.check-step-count.ensures c.enum-told6.given.1))
+    accepted-then _ _ _ _ c.check_trajectory-along.ensures c.in-Accepted.is
+    (accepted-then _ _ _ _ c.check_bound-bound.ensures c.in-Accepted-bound.is
+    (refused-here _ _ _ _ c.check_step_count-count.ensures c.in_default-count.is))
 
-shared-slice-read-check-first-breakpoint : tie.Need-shared-slice-read-check-first-breakpoint
+shared-slice-read-check-first-breakpoint : tie.Need-bounds-breakpoints-0
 shared-slice-read-check-first-breakpoint c =
-    let along = c.before.before.before.before.before.before.before in
-    let counts = ((trajectory-accepted _).0 (sym along.before.before.check-trajectory.ensures ∙ along.enum_told.given.1)).counts.of-breakpoints in
+    let counts = ((trajectory-accepted _).0 (sym c.check_trajectory-along.ensures ∙ c.in-Accepted.is)).counts.of-breakpoints in
     omega arith
 
-check-first-breakpoint-requires : tie.Need-check-first-breakpoint-requires
+check-first-breakpoint-requires : tie.Need-check_first_breakpoint-from_zero-requires
 check-first-breakpoint-requires c κs = search rules
 
-enum-told-7 : tie.Need-enum-told-7
+enum-told-7 : tie.Need-enum_told-in-Accepted-from_zero
 enum-told-7 c = search rules
 
-enum-told-8 : tie.Need-enum-told-8
+enum-told-8 : tie.Need-enum_told-in_default-from_zero
 enum-told-8 c = search rules
 
-returns-4 : tie.Need-returns-4
+returns-4 : tie.Need-returns-in_default-from_zero
 unfolding run_fault
 returns-4 c =
-    let count = c.before.before.before.before in
-    let bound = count.before.before.before in
-    let along = bound.before.before.before in
-    accepted-then _ _ _ _ along.before.before.check-trajectory.ensures along.enum_told.given.1
-    (accepted-then _ _ _ _ bound.before.before.check-bound.ensures bound.enum-told3.given.1
-    (accepted-then _ _ _ _ count.before.before.check-step-count.ensures count.enum-told5.given.1
-    (refused-here _ _ _ _ c.before.before.check-first-breakpoint.ensures c.enum-told8.given.1)))
+    accepted-then _ _ _ _ c.check_trajectory-along.ensures c.in-Accepted.is
+    (accepted-then _ _ _ _ c.check_bound-bound.ensures c.in-Accepted-bound.is
+    (accepted-then _ _ _ _ c.check_step_count-count.ensures c.in-Accepted-count.is
+    (refused-here _ _ _ _ c.check_first_breakpoint-from_zero.ensures c.in_default-from_zero.is)))
 
-mul-check-run-lengths : tie.Need-overflow-mul-check-run-lengths
+mul-check-run-lengths : tie.Need-overflow_mul-n
 mul-check-run-lengths c =
-    let along = c.before.before.before.before.before.before.before.before.before.before in
-    let few = ((trajectory-accepted _).0 (sym along.before.before.check-trajectory.ensures ∙ along.enum_told.given.1)).pattern.rows.few-rows in
+    let few = ((trajectory-accepted _).0 (sym c.check_trajectory-along.ensures ∙ c.in-Accepted.is)).pattern.rows.few-rows in
     omega arith
 
-mul-check-run-lengths-2 : tie.Need-overflow-mul-check-run-lengths-2
+mul-check-run-lengths-2 : tie.Need-overflow_mul-col_idx
 mul-check-run-lengths-2 c = search rules
 
-add-check-run-lengths : tie.Need-overflow-add-check-run-lengths
+add-check-run-lengths : tie.Need-overflow_add-n
 add-check-run-lengths c =
-    let along = c.before.before.before.before.before.before.before.before.before.before in
-    let rows = ((trajectory-accepted _).0 (sym along.before.before.check-trajectory.ensures ∙ along.enum_told.given.1)).pattern.rows in
+    let rows = ((trajectory-accepted _).0 (sym c.check_trajectory-along.ensures ∙ c.in-Accepted.is)).pattern.rows in
     omega (arith, rows.few-rows, rows.few-entries)
 
-check-run-lengths-requires : tie.Need-check-run-lengths-requires
+check-run-lengths-requires : tie.Need-check_run_lengths-lengths-requires
 check-run-lengths-requires c κs = search rules
 
-enum-told-9 : tie.Need-enum-told-9
+enum-told-9 : tie.Need-enum_told-in-Accepted-lengths
 enum-told-9 c = search rules
 
-enum-told-10 : tie.Need-enum-told-10
+enum-told-10 : tie.Need-enum_told-in_default-lengths
 enum-told-10 c = search rules
 
-returns-5 : tie.Need-returns-5
+returns-5 : tie.Need-returns-in_default-lengths
 unfolding run_fault
 returns-5 c =
-    let zero = c.before.before.before in
-    let count = zero.before.before.before.before in
-    let bound = count.before.before.before in
-    let along = bound.before.before.before in
-    accepted-then _ _ _ _ along.before.before.check-trajectory.ensures along.enum_told.given.1
-    (accepted-then _ _ _ _ bound.before.before.check-bound.ensures bound.enum-told3.given.1
-    (accepted-then _ _ _ _ count.before.before.check-step-count.ensures count.enum-told5.given.1
-    (accepted-then _ _ _ _ zero.before.before.check-first-breakpoint.ensures zero.enum-told7.given.1
-    (refused-here _ _ _ _ c.before.before.check-run-lengths.ensures c.enum-told10.given.1))))
+    accepted-then _ _ _ _ c.check_trajectory-along.ensures c.in-Accepted.is
+    (accepted-then _ _ _ _ c.check_bound-bound.ensures c.in-Accepted-bound.is
+    (accepted-then _ _ _ _ c.check_step_count-count.ensures c.in-Accepted-count.is
+    (accepted-then _ _ _ _ c.check_first_breakpoint-from_zero.ensures c.in-Accepted-from_zero.is
+    (refused-here _ _ _ _ c.check_run_lengths-lengths.ensures c.in_default-lengths.is))))
 
-check-segments-radius-requires : tie.Need-check-segments-radius-requires
-check-segments-radius-requires c κs =
-    let count = c.before.before.before.before.before.before.before in
-    let along = count.before.before.before.before.before.before in (
-      ((step-count-accepted _).0 (sym count.before.before.check-step-count.ensures ∙ count.enum-told5.given.1)).1,
-      ((trajectory-accepted _).0 (sym along.before.before.check-trajectory.ensures ∙ along.enum_told.given.1)).times,
-    )
+check-segments-radius-requires : tie.Need-check_segments_radius-requires
+check-segments-radius-requires c κs = (
+  ((step-count-accepted _).0 (sym c.check_step_count-count.ensures ∙ c.in-Accepted-count.is)).1,
+  ((trajectory-accepted _).0 (sym c.check_trajectory-along.ensures ∙ c.in-Accepted.is)).times,
+)
 
-returns-6 : tie.Need-returns-6
+returns-6 : tie.Need-returns
 unfolding run_fault
 returns-6 c =
-    let lengths = c.before in
-    let zero = lengths.before.before.before in
-    let count = zero.before.before.before.before in
-    let bound = count.before.before.before in
-    let along = bound.before.before.before in
-    accepted-then _ _ _ _ along.before.before.check-trajectory.ensures along.enum_told.given.1
-    (accepted-then _ _ _ _ bound.before.before.check-bound.ensures bound.enum-told3.given.1
-    (accepted-then _ _ _ _ count.before.before.check-step-count.ensures count.enum-told5.given.1
-    (accepted-then _ _ _ _ zero.before.before.check-first-breakpoint.ensures zero.enum-told7.given.1
-    (accepted-then _ _ _ _ lengths.before.before.check-run-lengths.ensures lengths.enum-told9.given.1
-    c.check-segments-radius.ensures))))
+    accepted-then _ _ _ _ c.check_trajectory-along.ensures c.in-Accepted.is
+    (accepted-then _ _ _ _ c.check_bound-bound.ensures c.in-Accepted-bound.is
+    (accepted-then _ _ _ _ c.check_step_count-count.ensures c.in-Accepted-count.is
+    (accepted-then _ _ _ _ c.check_first_breakpoint-from_zero.ensures c.in-Accepted-from_zero.is
+    (accepted-then _ _ _ _ c.check_run_lengths-lengths.ensures c.in-Accepted-lengths.is
+    c.check_segments_radius.ensures))))
 
-pub check-run-spec : {M : Type 1} → statement M
-check-run-spec =
+pub check_run_spec : {M : Type 1} → statement M
+check_run_spec =
     tie.close
     (tie.spec
     check-trajectory-requires

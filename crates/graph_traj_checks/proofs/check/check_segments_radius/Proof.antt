@@ -6,71 +6,67 @@ use Rattle.graph_traj_checks.proofs.SegmentsRadius.{Passed, passed_none, passed-
 use Rattle.graph_traj_checks.proofs.check.check_segments_radius.Statement.{statement}
 use Rattle.graph_traj_checks.proofs.check.check_segments_radius.Tie as tie
 
-abbrev invariant-loop : tie.invariant-loop
-invariant-loop radius-check bound steps breakpoints segments i₀ i = Passed radius-check bound steps breakpoints segments i
+abbrev invariant-loop-i : tie.invariant-loop-i
+invariant-loop-i radius-check bound steps breakpoints segments i₀ i = Passed radius-check bound steps breakpoints segments i
 
-abbrev decreases-loop : tie.decreases-loop
-decreases-loop radius-check bound steps breakpoints segments i₀ i = segments - i
+abbrev decreases-loop-i : tie.decreases-loop-i
+decreases-loop-i radius-check bound steps breakpoints segments i₀ i = segments - i
 
-loop-holds : tie.Need-loop-init invariant-loop decreases-loop
+loop-holds : tie.Need-loop-i-init invariant-loop-i decreases-loop-i
 loop-holds c = passed_none
 
-mul-new : tie.Need-overflow-mul-new invariant-loop decreases-loop
+mul-new : tie.Need-offset_bounds-breakpoints-i invariant-loop-i decreases-loop-i
 mul-new c = omega arith
 
-shared-slice-read-new : tie.Need-shared-slice-read-new invariant-loop decreases-loop
+shared-slice-read-new : tie.Need-bounds-breakpoints-i invariant-loop-i decreases-loop-i
 shared-slice-read-new c = omega arith
 
-add-new : tie.Need-overflow-add-new invariant-loop decreases-loop
+add-new : tie.Need-overflow_add-i invariant-loop-i decreases-loop-i
 add-new c = omega arith
 
-mul-new-2 : tie.Need-overflow-mul-new-2 invariant-loop decreases-loop
+mul-new-2 : tie.Need-offset_bounds-breakpoints-i-in-loop-i invariant-loop-i decreases-loop-i
 mul-new-2 c = omega arith
 
-shared-slice-read-new-2 : tie.Need-shared-slice-read-new-2 invariant-loop decreases-loop
+shared-slice-read-new-2 : tie.Need-bounds-breakpoints-i-in-loop-i invariant-loop-i decreases-loop-i
 shared-slice-read-new-2 c = omega arith
 
-new-requires : tie.Need-new-requires invariant-loop decreases-loop
+new-requires : tie.Need-new-segment-requires invariant-loop-i decreases-loop-i
 new-requires c κs = omega arith
 
-check-radius-requires : tie.Need-check-radius-requires invariant-loop decreases-loop
+check-radius-requires : tie.Need-check_radius-within-requires invariant-loop-i decreases-loop-i
 check-radius-requires c κs = search rules
 
-enum_told : tie.Need-enum-told invariant-loop decreases-loop
+enum_told : tie.Need-enum_told-1 invariant-loop-i decreases-loop-i
 enum_told c = search rules
 
-enum-told-2 : tie.Need-enum-told-2 invariant-loop decreases-loop
+enum-told-2 : tie.Need-enum_told-in_default invariant-loop-i decreases-loop-i
 enum-told-2 c = search rules
 
-returns : tie.Need-returns invariant-loop decreases-loop
+returns : tie.Need-returns-in_default invariant-loop-i decreases-loop-i
 returns c =
-    let made = c.before.before in
-    let test = made.before.before.before.before in
-    passed-refused test.before.loop.invariant test.loop-test.true made.before.new.ensures made.check-radius.ensures
-    c.enum-told2.given.1
+    passed-refused c.loop-i.invariant c.loop-i-test.true c.new-segment.ensures c.check_radius-within.ensures
+    c.in_default.is
 
-add-i : tie.Need-overflow-add-i invariant-loop decreases-loop
+add-i : tie.Need-overflow_step-i invariant-loop-i decreases-loop-i
 add-i c = omega arith
 
-loop-less : tie.Need-loop-smaller invariant-loop decreases-loop
+loop-less : tie.Need-loop-i-smaller invariant-loop-i decreases-loop-i
 loop-less c = omega arith
 
-loop-again : tie.Need-loop-preserved invariant-loop decreases-loop
+loop-again : tie.Need-loop-i-preserved invariant-loop-i decreases-loop-i
 loop-again c =
-    let made = c.before.before in
-    let test = made.before.before.before.before in
-    passed-more test.before.loop.invariant test.loop-test.true made.before.new.ensures made.check-radius.ensures
-    c.enum_told.given.1
+    passed-more c.loop-i.invariant c.loop-i-test.true c.new-segment.ensures c.check_radius-within.ensures
+    c.in-Accepted.is
 
-returns-2 : tie.Need-returns-2 invariant-loop decreases-loop
-returns-2 c = passed-all c.before.loop.invariant c.loop-test.false
+returns-2 : tie.Need-returns invariant-loop-i decreases-loop-i
+returns-2 c = passed-all c.loop-i.invariant c.loop-i-test.false
 
-pub check-segments-radius-spec : {M : Type 1} → statement M
-check-segments-radius-spec =
+pub check_segments_radius_spec : {M : Type 1} → statement M
+check_segments_radius_spec =
     tie.close
     (tie.spec
-    invariant-loop
-    decreases-loop
+    invariant-loop-i
+    decreases-loop-i
     loop-holds
     mul-new
     shared-slice-read-new

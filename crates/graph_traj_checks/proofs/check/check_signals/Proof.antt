@@ -6,32 +6,31 @@ use Rattle.graph_traj_faults.specs.RunChecks.{signals_fault}
 use Rattle.graph_traj_checks.proofs.check.check_signals.Statement.{statement}
 use Rattle.graph_traj_checks.proofs.check.check_signals.Tie as tie
 
-check-length-requires : tie.Need-check-length-requires
+check-length-requires : tie.Need-check_length-source-requires
 check-length-requires c κs = search rules
 
-enum_told : tie.Need-enum-told
+enum_told : tie.Need-enum_told-1
 enum_told c = search rules
 
-enum-told-2 : tie.Need-enum-told-2
+enum-told-2 : tie.Need-enum_told-in_default
 enum-told-2 c = search rules
 
-returns : tie.Need-returns
+returns : tie.Need-returns-in_default
 unfolding signals_fault
 returns c =
-    refused-here _ _ _ _ (fault-is c.before.before.check-length.ensures) c.enum-told2.given.1
+    refused-here _ _ _ _ (fault-is c.check_length-source.ensures) c.in_default.is
 
-check-length-requires-2 : tie.Need-check-length-requires-2
+check-length-requires-2 : tie.Need-check_length-requires
 check-length-requires-2 c κs = search rules
 
-returns-2 : tie.Need-returns-2
+returns-2 : tie.Need-returns
 unfolding signals_fault
 returns-2 c =
-    let source = c.before in
-    accepted-then _ _ _ _ (fault-is source.before.before.check-length.ensures) source.enum_told.given.1
-    (fault-is c.check-length2.ensures)
+    accepted-then _ _ _ _ (fault-is c.check_length-source.ensures) c.in-Accepted.is
+    (fault-is c.check_length.ensures)
 
-pub check-signals-spec : {M : Type 1} → statement M
-check-signals-spec =
+pub check_signals_spec : {M : Type 1} → statement M
+check_signals_spec =
     tie.close
     (tie.spec
     check-length-requires

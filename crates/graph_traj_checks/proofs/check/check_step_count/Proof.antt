@@ -4,13 +4,13 @@ use Rattle.graph_traj_faults.specs.RunChecks.{step_count_fault}
 use Rattle.graph_traj_checks.proofs.check.check_step_count.Statement.{statement}
 use Rattle.graph_traj_checks.proofs.check.check_step_count.Tie as tie
 
-returns : tie.Need-returns
+returns : tie.Need-returns-then-steps
 unfolding step_count_fault
-returns c = refuses _ _ c.if1.true
+returns c = refuses _ _ c.if-steps.true
 
-returns-2 : tie.Need-returns-2
+returns-2 : tie.Need-returns-else-steps
 unfolding step_count_fault
-returns-2 c = accepts _ _ c.if1.false
+returns-2 c = accepts _ _ c.if-steps.false
 
-pub check-step-count-spec : {M : Type 1} → statement M
-check-step-count-spec = tie.close (tie.spec returns returns-2)
+pub check_step_count_spec : {M : Type 1} → statement M
+check_step_count_spec = tie.close (tie.spec returns returns-2)

@@ -12,57 +12,53 @@ use Rattle.graph_traj_samples.proofs.Sampled.{both-pass}
 use Rattle.graph_traj_weights.proofs.kernel.sample_weights.Statement.{statement}
 use Rattle.graph_traj_weights.proofs.kernel.sample_weights.Tie as tie
 
-weight-pairs-requires : tie.Need-weight-pairs-requires
+weight-pairs-requires : tie.Need-weight_pairs-requires
 weight-pairs-requires c κs = search rules
 
-same_length : tie.Need-same-length
+same_length : tie.Need-shape_of-work-then-weight_pairs
 same_length c = search rules
 
-returns : tie.Need-returns
+returns : tie.Need-returns-then-weight_pairs
 unfolding weight_fault sample_weights_fault
 returns c =
-    let sampled = c.before.before.before in
-    let args = sampled.before.before.before.before.before.args in (
+    let args = c.args in (
       both-pass not_positive Weight (λ x. not (not_positive x)) (λ x. not-true _) (length args.starts.now) args.fraction1 args.fraction2
-          args.starts.now args.ends.now sampled.weight-pairs.ensures.0 c.if1.true,
-      sampled.weight-pairs.ensures.1,
+          args.starts.now args.ends.now c.weight_pairs.ensures.0 c.if-weight_pairs.true,
+      c.weight_pairs.ensures.1,
     )
 
-check-law-weights-requires : tie.Need-check-law-weights-requires
+check-law-weights-requires : tie.Need-check_law_weights-first-requires
 check-law-weights-requires c κs = search rules
 
-enum_told : tie.Need-enum-told
+enum_told : tie.Need-enum_told-1
 enum_told c = search rules
 
-enum-told-2 : tie.Need-enum-told-2
+enum-told-2 : tie.Need-enum_told-in_default
 enum-told-2 c = search rules
 
-same-length-2 : tie.Need-same-length-2
+same-length-2 : tie.Need-shape_of-work-in_default
 same-length-2 c = search rules
 
-returns-2 : tie.Need-returns-2
+returns-2 : tie.Need-returns-in_default
 unfolding weight_fault
 returns-2 c =
-    let first = c.before.before in
-    (refused-here _ _ _ _ first.check-law-weights.ensures c.enum-told2.given.1, first.before.before.before.before.weight-pairs.ensures.1)
+    (refused-here _ _ _ _ c.check_law_weights-first.ensures c.in_default.is, c.weight_pairs.ensures.1)
 
-check-law-weights-requires-2 : tie.Need-check-law-weights-requires-2
+check-law-weights-requires-2 : tie.Need-check_law_weights-requires
 check-law-weights-requires-2 c κs = search rules
 
-same-length-3 : tie.Need-same-length-3
+same-length-3 : tie.Need-shape_of-work
 same-length-3 c = search rules
 
-returns-3 : tie.Need-returns-3
+returns-3 : tie.Need-returns
 unfolding weight_fault
-returns-3 c =
-    let passed = c.before in
-    let first = passed.before.before in (
-      accepted-then _ _ _ _ first.check-law-weights.ensures passed.enum_told.given.1 c.check-law-weights2.ensures,
-      first.before.before.before.before.weight-pairs.ensures.1,
-    )
+returns-3 c = (
+  accepted-then _ _ _ _ c.check_law_weights-first.ensures c.in-Accepted.is c.check_law_weights.ensures,
+  c.weight_pairs.ensures.1,
+)
 
-pub sample-weights-spec : {M : Type 1} → statement M
-sample-weights-spec =
+pub sample_weights_spec : {M : Type 1} → statement M
+sample_weights_spec =
     tie.close
     (tie.spec
     weight-pairs-requires

@@ -4,26 +4,26 @@ use borrow.Author.Rules.{rules}
 use Rattle.job_answer.proofs.kernel.write_answer.Statement.{statement}
 use Rattle.job_answer.proofs.kernel.write_answer.Tie as tie
 
-enum_told : tie.Need-enum-told
+enum_told : tie.Need-enum_told-1
 enum_told c = search rules
 
-write-done-requires : tie.Need-write-done-requires
+write-done-requires : tie.Need-write_done-requires
 write-done-requires c κs = search rules
 
-enum-known-answer : tie.Need-enum-known-answer
+enum-known-answer : tie.Need-enum_known-answer
 enum-known-answer c = search rules
 
-write-refused-requires : tie.Need-write-refused-requires
+write-refused-requires : tie.Need-write_refused-requires
 write-refused-requires c κs = search rules
 
-returns : tie.Need-returns
-returns c = done-written c.before.before.enum_told.given.1 c.write_done.ensures
+returns : tie.Need-returns-in-Accepted
+returns c = done-written c.in-Accepted.is c.write_done.ensures
 
-returns-2 : tie.Need-returns-2
-returns-2 c = refusal-written _ c.before.before.before.answer.given.1 c.write-refused.ensures
+returns-2 : tie.Need-returns-in-Refused
+returns-2 c = refusal-written _ c.in-Refused.is c.write_refused.ensures
 
-pub write-answer-spec : {M : Type 1} → statement M
-write-answer-spec =
+pub write_answer_spec : {M : Type 1} → statement M
+write_answer_spec =
     tie.close
     (tie.spec
     enum_told

@@ -7,41 +7,38 @@ use borrow.Author.Rules.{rules}
 use Rattle.job_fields.proofs.kernel.read_columns.Statement.{statement}
 use Rattle.job_fields.proofs.kernel.read_columns.Tie as tie
 
-field-requires : tie.Need-field-requires
+field-requires : tie.Need-field-at-requires
 field-requires c κs = search rules
 
-head-of-requires : tie.Need-head-of-requires
+head-of-requires : tie.Need-head_of-n-requires
 head-of-requires c κs = search rules
 
-add-read-words32 : tie.Need-overflow-add-read-words32
+add-read-words32 : tie.Need-overflow_add-at
 add-read-words32 c = search rules
 
-add-read-words32-2 : tie.Need-overflow-add-read-words32-2
+add-read-words32-2 : tie.Need-overflow_add-n
 add-read-words32-2 c = search rules
 
-mul-read-words32 : tie.Need-overflow-mul-read-words32
+mul-read-words32 : tie.Need-overflow_mul-n
 mul-read-words32 c = search rules
 
-add-read-words32-3 : tie.Need-overflow-add-read-words32-3
+add-read-words32-3 : tie.Need-overflow_add-at-2
 add-read-words32-3 c = search rules
 
-read-words32-requires : tie.Need-read-words32-requires
+read-words32-requires : tie.Need-read_words32-requires
 read-words32-requires c κs = search rules
 
-same_length : tie.Need-same-length
+same_length : tie.Need-shape_of-target
 same_length c = search rules
 
 returns : tie.Need-returns
 unfolding job_columns
 returns c =
-    let read = c.before.before in
-    let head = read.before.before in
-    let start = head.before.before.before.before in
-    let place = ap₂ (λ (at n : ℕ). at + 4 + 2 * (n + 1)) head.before.field.ensures.0.0 head.head_of.ensures.1.0.0 in
-    read-there (words16 start.args.job.now) read.read-words32.ensures place start.requires
+    let place = ap₂ (λ (at n : ℕ). at + 4 + 2 * (n + 1)) c.field-at.ensures.0.0 c.head_of-n.ensures.1.0.0 in
+    read-there (words16 c.args.job.now) c.read_words32.ensures place c.requires
 
-pub read-columns-spec : {M : Type 1} → statement M
-read-columns-spec =
+pub read_columns_spec : {M : Type 1} → statement M
+read_columns_spec =
     tie.close
     (tie.spec
     field-requires

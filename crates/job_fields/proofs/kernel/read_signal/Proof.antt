@@ -5,22 +5,20 @@ use borrow.Author.Rules.{rules}
 use Rattle.job_fields.proofs.kernel.read_signal.Statement.{statement}
 use Rattle.job_fields.proofs.kernel.read_signal.Tie as tie
 
-field-requires : tie.Need-field-requires
+field-requires : tie.Need-field-at-requires
 field-requires c κs = search rules
 
-read-reals-requires : tie.Need-read-reals-requires
+read-reals-requires : tie.Need-read_reals-requires
 read-reals-requires c κs = search rules
 
-same_length : tie.Need-same-length
+same_length : tie.Need-shape_of-target
 same_length c = search rules
 
 returns : tie.Need-returns
 unfolding job_signal
 returns c =
-    let read = c.before.before in
-    let start = read.before.before.before.before.before in
-    let place = read.before.before.field.ensures.0.0 in
-    read-there (reals start.args.job.now) read.read-reals.ensures place start.requires
+    let place = c.field-at.ensures.0.0 in
+    read-there (reals c.args.job.now) c.read_reals.ensures place c.requires
 
-pub read-signal-spec : {M : Type 1} → statement M
-read-signal-spec = tie.close (tie.spec field-requires read-reals-requires same_length returns)
+pub read_signal_spec : {M : Type 1} → statement M
+read_signal_spec = tie.close (tie.spec field-requires read-reals-requires same_length returns)

@@ -7,26 +7,24 @@ use borrow.Author.Rules.{rules}
 use Rattle.job_fields.proofs.kernel.read_weights1.Statement.{statement}
 use Rattle.job_fields.proofs.kernel.read_weights1.Tie as tie
 
-field-requires : tie.Need-field-requires
+field-requires : tie.Need-field-at-requires
 field-requires c κs = search rules
 
-add-read-reals : tie.Need-overflow-add-read-reals
+add-read-reals : tie.Need-overflow_add-at
 add-read-reals c = search rules
 
-read-reals-requires : tie.Need-read-reals-requires
+read-reals-requires : tie.Need-read_reals-requires
 read-reals-requires c κs = search rules
 
-same_length : tie.Need-same-length
+same_length : tie.Need-shape_of-target
 same_length c = search rules
 
 returns : tie.Need-returns
 unfolding job_weights1
 returns c =
-    let read = c.before.before in
-    let start = read.before.before.before.before.before in
-    let place = read.before.before.field.ensures.0.0 in
-    read-there (reals start.args.job.now) read.read-reals.ensures (ap (λ (at : ℕ). at + 8) place) start.requires
+    let place = c.field-at.ensures.0.0 in
+    read-there (reals c.args.job.now) c.read_reals.ensures (ap (λ (at : ℕ). at + 8) place) c.requires
 
-pub read-weights1-spec : {M : Type 1} → statement M
-read-weights1-spec =
+pub read_weights1_spec : {M : Type 1} → statement M
+read_weights1_spec =
     tie.close (tie.spec field-requires add-read-reals read-reals-requires same_length returns)

@@ -7,38 +7,35 @@ use borrow.Author.Rules.{rules}
 use Rattle.job_fields.proofs.kernel.read_weights2.Statement.{statement}
 use Rattle.job_fields.proofs.kernel.read_weights2.Tie as tie
 
-field-requires : tie.Need-field-requires
+field-requires : tie.Need-field-at-requires
 field-requires c κs = search rules
 
-head-of-requires : tie.Need-head-of-requires
+head-of-requires : tie.Need-head_of-n-requires
 head-of-requires c κs = search rules
 
-add-read-reals : tie.Need-overflow-add-read-reals
+add-read-reals : tie.Need-overflow_add-at
 add-read-reals c = search rules
 
-mul-read-reals : tie.Need-overflow-mul-read-reals
+mul-read-reals : tie.Need-overflow_mul-n
 mul-read-reals c = search rules
 
-add-read-reals-2 : tie.Need-overflow-add-read-reals-2
+add-read-reals-2 : tie.Need-overflow_add-at-2
 add-read-reals-2 c = search rules
 
-read-reals-requires : tie.Need-read-reals-requires
+read-reals-requires : tie.Need-read_reals-requires
 read-reals-requires c κs = search rules
 
-same_length : tie.Need-same-length
+same_length : tie.Need-shape_of-target
 same_length c = search rules
 
 returns : tie.Need-returns
 unfolding job_weights2
 returns c =
-    let read = c.before.before in
-    let head = read.before.before in
-    let start = head.before.before.before.before in
-    let place = ap₂ (λ (at n : ℕ). at + 8 + 8 * n) head.before.field.ensures.0.0 head.head_of.ensures.1.0.0 in
-    read-there (reals start.args.job.now) read.read-reals.ensures place start.requires
+    let place = ap₂ (λ (at n : ℕ). at + 8 + 8 * n) c.field-at.ensures.0.0 c.head_of-n.ensures.1.0.0 in
+    read-there (reals c.args.job.now) c.read_reals.ensures place c.requires
 
-pub read-weights2-spec : {M : Type 1} → statement M
-read-weights2-spec =
+pub read_weights2_spec : {M : Type 1} → statement M
+read_weights2_spec =
     tie.close
     (tie.spec
     field-requires

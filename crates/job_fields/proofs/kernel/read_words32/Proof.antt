@@ -8,56 +8,56 @@ use Rattle.job_format.specs.JobFormat.{word16, words16}
 use Rattle.job_fields.proofs.kernel.read_words32.Statement.{statement}
 use Rattle.job_fields.proofs.kernel.read_words32.Tie as tie
 
-abbrev invariant-loop : tie.invariant-loop
-invariant-loop job at target₀ i₀ i-end target i = Written 0 (λ k. word16 job (at + 2 * k)) (length target₀) target₀ i target
+abbrev invariant-loop-i : tie.invariant-loop-i
+invariant-loop-i job at target₀ i₀ i-end target i = Written 0 (λ k. word16 job (at + 2 * k)) (length target₀) target₀ i target
 
-abbrev decreases-loop : tie.decreases-loop
-decreases-loop job at target₀ i₀ i-end target i = length target₀ - i
+abbrev decreases-loop-i : tie.decreases-loop-i
+decreases-loop-i job at target₀ i₀ i-end target i = length target₀ - i
 
-loop-holds : tie.Need-loop-init invariant-loop decreases-loop
+loop-holds : tie.Need-loop-i-init invariant-loop-i decreases-loop-i
 loop-holds c = written_none _ _ _ _
 
-mul-word16 : tie.Need-overflow-mul-word16 invariant-loop decreases-loop
+mul-word16 : tie.Need-overflow_mul-i invariant-loop-i decreases-loop-i
 mul-word16 c = omega arith
 
-add-word16 : tie.Need-overflow-add-word16 invariant-loop decreases-loop
+add-word16 : tie.Need-overflow_add-at invariant-loop-i decreases-loop-i
 add-word16 c = omega arith
 
-word16-requires : tie.Need-word16-requires invariant-loop decreases-loop
+word16-requires : tie.Need-word16-requires invariant-loop-i decreases-loop-i
 word16-requires c κs = omega arith
 
-cast-target : tie.Need-overflow-cast-target invariant-loop decreases-loop
+cast-target : tie.Need-overflow_cast-target invariant-loop-i decreases-loop-i
 cast-target c = omega arith
 
-mul-target : tie.Need-overflow-mul-target invariant-loop decreases-loop
+mul-target : tie.Need-offset_bounds-target-i invariant-loop-i decreases-loop-i
 mul-target c = omega arith
 
-slice-write-target : tie.Need-slice-write-target invariant-loop decreases-loop
+slice-write-target : tie.Need-bounds-target-i invariant-loop-i decreases-loop-i
 slice-write-target c = omega arith
 
-add-i : tie.Need-overflow-add-i invariant-loop decreases-loop
+add-i : tie.Need-overflow_step-i invariant-loop-i decreases-loop-i
 add-i c = omega arith
 
-loop-less : tie.Need-loop-smaller invariant-loop decreases-loop
+loop-less : tie.Need-loop-i-smaller invariant-loop-i decreases-loop-i
 loop-less c = omega arith
 
-loop-again : tie.Need-loop-preserved invariant-loop decreases-loop
+loop-again : tie.Need-loop-i-preserved invariant-loop-i decreases-loop-i
 unfolding word16
-loop-again c = written_next c.before.before.loop.invariant (omega arith) _ _ (omega arith) c.word16.ensures.0
+loop-again c = written_next c.loop-i.invariant (omega arith) _ _ (omega arith) c.word16.ensures.0
 
-same_length : tie.Need-same-length invariant-loop decreases-loop
-same_length c = c.before.loop.invariant.length-kept
+same_length : tie.Need-shape_of-target invariant-loop-i decreases-loop-i
+same_length c = c.loop-i.invariant.length-kept
 
-returns : tie.Need-returns invariant-loop decreases-loop
+returns : tie.Need-returns invariant-loop-i decreases-loop-i
 unfolding words16
-returns c = written-whole c.before.loop.invariant c.loop-test.false refl
+returns c = written-whole c.loop-i.invariant c.loop-i-test.false refl
 
-pub read-words32-spec : {M : Type 1} → statement M
-read-words32-spec =
+pub read_words32_spec : {M : Type 1} → statement M
+read_words32_spec =
     tie.close
     (tie.spec
-    invariant-loop
-    decreases-loop
+    invariant-loop-i
+    decreases-loop-i
     loop-holds
     mul-word16
     add-word16

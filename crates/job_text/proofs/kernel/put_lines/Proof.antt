@@ -41,56 +41,55 @@ module _ (values : List Float) {at i : ℕ} {w w' : List ℕ} {next : ℕ}
         f ∙ ap (λ k. at + 17 * k) e,
       )
 
-abbrev invariant-loop : tie.invariant-loop
-invariant-loop text₀ at values next₀ i₀ i-end text next i =
+abbrev invariant-loop-i : tie.invariant-loop-i
+invariant-loop-i text₀ at values next₀ i₀ i-end text next i =
     (i ≤ length values) × (next ≡ at + 17 * i) × PlacedSome at (Lines (take i values)) text₀ text next
 
-abbrev decreases-loop : tie.decreases-loop
-decreases-loop text₀ at values next₀ i₀ i-end text next i = length values - i
+abbrev decreases-loop-i : tie.decreases-loop-i
+decreases-loop-i text₀ at values next₀ i₀ i-end text next i = length values - i
 
-loop-holds : tie.Need-loop-init invariant-loop decreases-loop
+loop-holds : tie.Need-loop-i-init invariant-loop-i decreases-loop-i
 loop-holds c = (omega arith, omega arith, some none (placed-none _ _))
 
-mul-put-real : tie.Need-overflow-mul-put-real invariant-loop decreases-loop
+mul-put-real : tie.Need-offset_bounds-values-i invariant-loop-i decreases-loop-i
 mul-put-real c = omega arith
 
-shared-slice-read-put-real : tie.Need-shared-slice-read-put-real invariant-loop decreases-loop
+shared-slice-read-put-real : tie.Need-bounds-values-i invariant-loop-i decreases-loop-i
 shared-slice-read-put-real c = omega arith
 
-put-real-requires : tie.Need-put-real-requires invariant-loop decreases-loop
-put-real-requires c κs = omega (arith, length-placed c.before.before.before.loop.invariant.2.placed)
+put-real-requires : tie.Need-put_real-end-requires invariant-loop-i decreases-loop-i
+put-real-requires c κs = omega (arith, length-placed c.loop-i.invariant.2.placed)
 
-put-byte-requires : tie.Need-put-byte-requires invariant-loop decreases-loop
+put-byte-requires : tie.Need-put_byte-next-requires invariant-loop-i decreases-loop-i
 put-byte-requires c κs =
-    let before = length-placed c.before.before.before.before.before.before.before.loop.invariant.2.placed in
-    let real = c.before.before.before.put-real.ensures in
+    let before = length-placed c.loop-i.invariant.2.placed in
+    let real = c.put_real-end.ensures in
     omega (arith, before, length-placed real.0.placed, real.1)
 
-add-i : tie.Need-overflow-add-i invariant-loop decreases-loop
+add-i : tie.Need-overflow_step-i invariant-loop-i decreases-loop-i
 add-i c = omega arith
 
-loop-less : tie.Need-loop-smaller invariant-loop decreases-loop
+loop-less : tie.Need-loop-i-smaller invariant-loop-i decreases-loop-i
 loop-less c = omega arith
 
-loop-again : tie.Need-loop-preserved invariant-loop decreases-loop
+loop-again : tie.Need-loop-i-preserved invariant-loop-i decreases-loop-i
 loop-again c =
-    let test = c.before.before.before.before.before.before.before.before.before in
-    let inv = test.before.loop.invariant in
-    let real = c.before.before.before.before.before.before.put-real.ensures in
-    next-line _ inv.2 test.loop-test.true inv.1 real.0 real.1 c.before.before.put_byte.ensures
+    let inv = c.loop-i.invariant in
+    let real = c.put_real-end.ensures in
+    next-line _ inv.2 c.loop-i-test.true inv.1 real.0 real.1 c.put_byte-next.ensures
 
-same_length : tie.Need-same-length invariant-loop decreases-loop
-same_length c = length-placed c.before.loop.invariant.2.placed
+same_length : tie.Need-shape_of-text invariant-loop-i decreases-loop-i
+same_length c = length-placed c.loop-i.invariant.2.placed
 
-returns : tie.Need-returns invariant-loop decreases-loop
-returns c = let inv = c.before.loop.invariant in all_lines _ inv.2 inv.0 c.loop-test.false inv.1
+returns : tie.Need-returns invariant-loop-i decreases-loop-i
+returns c = let inv = c.loop-i.invariant in all_lines _ inv.2 inv.0 c.loop-i-test.false inv.1
 
-pub put-lines-spec : {M : Type 1} → statement M
-put-lines-spec =
+pub put_lines_spec : {M : Type 1} → statement M
+put_lines_spec =
     tie.close
     (tie.spec
-    invariant-loop
-    decreases-loop
+    invariant-loop-i
+    decreases-loop-i
     loop-holds
     mul-put-real
     shared-slice-read-put-real

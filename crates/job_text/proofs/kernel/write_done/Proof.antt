@@ -32,32 +32,28 @@ module _ (values : List Float) {w₀ w₁ w₂ w₃ : List ℕ} {a b c : ℕ}
       begins (omega (arith, start-of-lines))
       (some (done lines.holds) (placed-append word (placed-append number (placed-append byte lines.placed))))
 
-slice-aggregate-put-bytes : tie.Need-slice-aggregate-put-bytes
-slice-aggregate-put-bytes c = search rules
-
-put-bytes-requires : tie.Need-put-bytes-requires
+put-bytes-requires : tie.Need-put_bytes-word-requires
 put-bytes-requires c κs = search rules
 
-put-decimal-requires : tie.Need-put-decimal-requires
+put-decimal-requires : tie.Need-put_decimal-count-requires
 put-decimal-requires c κs = search rules
 
-put-byte-requires : tie.Need-put-byte-requires
+put-byte-requires : tie.Need-put_byte-first-requires
 put-byte-requires c κs = search rules
 
-put-lines-requires : tie.Need-put-lines-requires
+put-lines-requires : tie.Need-put_lines-requires
 put-lines-requires c κs =
-    room c.before.before.before.before.before.before.before.before.before.args.values.now c.before.before.before.before.before.put-bytes.ensures c.before.before.before.put-decimal.ensures.0 c.before.put_byte.ensures c.before.before.before.before.before.before.before.before.before.requires (omega arith)
+    room c.args.values.now c.put_bytes-word.ensures c.put_decimal-count.ensures.0 c.put_byte-first.ensures c.requires (omega arith)
 
 returns : tie.Need-returns
 returns c =
-    whole _ c.before.before.before.before.before.before.put-bytes.ensures c.before.before.before.before.put-decimal.ensures.0 c.before.before.put_byte.ensures c.before.before.before.before.before.before.before.before.before.before.requires (omega arith)
-    c.put-lines.ensures.0 c.put-lines.ensures.1
+    whole _ c.put_bytes-word.ensures c.put_decimal-count.ensures.0 c.put_byte-first.ensures c.requires (omega arith)
+    c.put_lines.ensures.0 c.put_lines.ensures.1
 
-pub write-done-spec : {M : Type 1} → statement M
-write-done-spec =
+pub write_done_spec : {M : Type 1} → statement M
+write_done_spec =
     tie.close
     (tie.spec
-    slice-aggregate-put-bytes
     put-bytes-requires
     put-decimal-requires
     put-byte-requires

@@ -13,7 +13,7 @@ use borrow.Author.Rules.{rules}
 use Rattle.magnus6_graph_helpers.proofs.kernel.step6.Statement.{statement}
 use Rattle.magnus6_graph_helpers.proofs.kernel.step6.Tie as tie
 
-same-pattern-requires : tie.Need-same-pattern-requires
+same-pattern-requires : tie.Need-same_pattern-shared-requires
 same-pattern-requires c κs = search rules
 
 load-requires : tie.Need-load-requires
@@ -21,53 +21,38 @@ load-requires c κs = search rules
 
 taylor6-requires : tie.Need-taylor6-requires
 taylor6-requires c κs =
-    let loaded = c.before.before.before in
-    let start = loaded.before.before.before.before.before.before.before.before.before.before.before.before.before.before.before in
-    let compared = loaded.before.before in
-    (start.requires.0, (start.requires.1.0, ((start.requires.1.1.0, record { same = compared.same-pattern.ensures.0 }), omega (arith, start.requires.1.1.1.1, loaded.load.auto.0))))
+    (c.requires.0, (c.requires.1.0, ((c.requires.1.1.0, record { same = c.same_pattern-shared.ensures.0 }), omega (arith, c.requires.1.1.1.1, c.load.auto.work))))
 
 store-requires : tie.Need-store-requires
 store-requires c κs =
-    let summed = c.before.before.before.before in
-    let loaded = summed.before.before.before.before in
-    let start = loaded.before.before.before.before.before.before.before.before.before.before.before.before.before.before.before in
-    omega (arith, start.requires.1.1.1, loaded.load.auto.0, summed.taylor6.auto.1.1.1.1.1.1.1.1.1.1.1.0)
+    omega (arith, c.requires.1.1.1, c.load.auto.work, c.taylor6.auto.work)
 
-mul-clear : tie.Need-overflow-mul-clear
+mul-clear : tie.Need-overflow_mul-n
 mul-clear c =
-    let start = c.before.before.before.before.before.before.before.before.before.before.before.before.before.before.before.before.before.before.before.before.before.before.before.before.before.before.before in
-    omega (arith, start.requires.1.1.1.1, start.well-formed)
+    omega (arith, c.requires.1.1.1.1, c.well_formed)
 
 clear-requires : tie.Need-clear-requires
 clear-requires c κs =
-    let summed = c.before.before.before.before.before.before.before.before in
-    let loaded = summed.before.before.before.before in
-    let start = loaded.before.before.before.before.before.before.before.before.before.before.before.before.before.before.before in
-    omega (arith, start.requires.1.1.1.1, loaded.load.auto.0, summed.taylor6.auto.1.1.1.1.1.1.1.1.1.1.1.0)
+    omega (arith, c.requires.1.1.1.1, c.load.auto.work, c.taylor6.auto.work)
 
-same_length : tie.Need-same-length
+same_length : tie.Need-shape_of-dst
 same_length c = search rules
 
-same-length-2 : tie.Need-same-length-2
+same-length-2 : tie.Need-shape_of-work
 same-length-2 c = search rules
 
 returns : tie.Need-returns
 returns c =
-    let cleared = c.before.before in
-    let stored = cleared.before.before.before.before in
-    let summed = stored.before.before.before.before.before in
-    let loaded = summed.before.before.before.before in
-    let start = loaded.before.before.before.before.before.before.before.before.before.before.before.before.before.before.before in
-    let args = start.args in
+    let args = c.args in
     let n = length args.src.now in
-    let room = start.requires.1.1.1 in
+    let room = c.requires.1.1.1 in
     let signal = signal-loaded (ieee binary64) n (22 * n) args.src.now args.work.now _ refl (omega arith) room.1 in
     step-done (ieee binary64) n (22 * n) (22 * n) _ _ 6 _ _ _ _ room.0 room.1 (omega arith)
-    (signal loaded.load.ensures) summed.taylor6.ensures stored.store.ensures (length-tabulate _ _)
-    cleared.clear.ensures
+    (signal c.load.ensures) c.taylor6.ensures c.store.ensures (length-tabulate _ _)
+    c.clear.ensures
 
-pub step6-spec : {M : Type 1} → statement M
-step6-spec =
+pub step6_spec : {M : Type 1} → statement M
+step6_spec =
     tie.close
     (tie.spec
     same-pattern-requires

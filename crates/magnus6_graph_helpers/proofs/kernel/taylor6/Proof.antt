@@ -12,71 +12,60 @@ use Rattle.magnus_graph_helpers.proofs.Terms.{TermsTurn, turns-none, turns_next,
 use Rattle.magnus6_graph_helpers.proofs.kernel.taylor6.Statement.{statement}
 use Rattle.magnus6_graph_helpers.proofs.kernel.taylor6.Tie as tie
 
-abbrev invariant-loop : tie.invariant-loop
-invariant-loop row-ptr1 col-idx1 vals1 row-ptr2 col-idx2 vals2 row-ptr3 col-idx3 vals3 shared tau work₀ n k₀ work k =
+abbrev invariant-loop-k : tie.invariant-loop-k
+invariant-loop-k row-ptr1 col-idx1 vals1 row-ptr2 col-idx2 vals2 row-ptr3 col-idx3 vals3 shared tau work₀ n k₀ work k =
     let L1 = row_product64 n row-ptr1 col-idx1 vals1 in
     let L2 = row_product64 n row-ptr2 col-idx2 vals2 in
     let L3 = row_product64 n row-ptr3 col-idx3 vals3 in
     let A = ieee binary64 in
     TermsTurn A n (22 * n) (reciprocal_factorial binary64) 6 (omega6 (on_vectors A n) constants6 tau L1 L2 L3) work₀ k work
 
-abbrev decreases-loop : tie.decreases-loop
-decreases-loop row-ptr1 col-idx1 vals1 row-ptr2 col-idx2 vals2 row-ptr3 col-idx3 vals3 shared tau work₀ n k₀ work k = 6 - k
+abbrev decreases-loop-k : tie.decreases-loop-k
+decreases-loop-k row-ptr1 col-idx1 vals1 row-ptr2 col-idx2 vals2 row-ptr3 col-idx3 vals3 shared tau work₀ n k₀ work k = 6 - k
 
-copy-within-requires : tie.Need-copy-within-requires invariant-loop decreases-loop
+copy-within-requires : tie.Need-copy_within-requires invariant-loop-k decreases-loop-k
 copy-within-requires c κs = omega arith
 
-loop-holds : tie.Need-loop-init invariant-loop decreases-loop
+loop-holds : tie.Need-loop-k-init invariant-loop-k decreases-loop-k
 loop-holds c =
-    let copied = c.before.before in
-    let start = copied.before.before.before.before.before.before.before.before.before.before.before.before in
-    turns-none (ieee binary64) _ _ _ 6 _ start.args.work.now _ (omega arith) copied.copy_within.ensures
+    turns-none (ieee binary64) _ _ _ 6 _ c.args.work.now _ (omega arith) c.copy_within.ensures
 
-add-reciprocal-factorial : tie.Need-overflow-add-reciprocal-factorial invariant-loop decreases-loop
+add-reciprocal-factorial : tie.Need-overflow_add-k invariant-loop-k decreases-loop-k
 add-reciprocal-factorial c = omega arith
 
-reciprocal-factorial-requires : tie.Need-reciprocal-factorial-requires invariant-loop decreases-loop
+reciprocal-factorial-requires : tie.Need-reciprocal_factorial-coefficient-requires invariant-loop-k decreases-loop-k
 reciprocal-factorial-requires c κs = omega arith
 
-taylor-term6-requires : tie.Need-taylor-term6-requires invariant-loop decreases-loop
+taylor-term6-requires : tie.Need-taylor_term6-requires invariant-loop-k decreases-loop-k
 taylor-term6-requires c κs =
-    let head = c.before.before.before in
-    let start = head.before.before.before.before.before.before.before.before.before.before.before.before.before.before.before in
-    let kept = head.loop.invariant.terms.length-kept in
-    (start.requires.0, (start.requires.1.0, (start.requires.1.1.0, omega (arith, start.requires.1.1.1, kept))))
+    let kept = c.loop-k.invariant.terms.length-kept in
+    (c.requires.0, (c.requires.1.0, (c.requires.1.1.0, omega (arith, c.requires.1.1.1, kept))))
 
-add-k : tie.Need-overflow-add-k invariant-loop decreases-loop
+add-k : tie.Need-overflow_step-k invariant-loop-k decreases-loop-k
 add-k c = omega arith
 
-loop-less : tie.Need-loop-smaller invariant-loop decreases-loop
+loop-less : tie.Need-loop-k-smaller invariant-loop-k decreases-loop-k
 loop-less c = omega arith
 
-loop-again : tie.Need-loop-preserved invariant-loop decreases-loop
+loop-again : tie.Need-loop-k-preserved invariant-loop-k decreases-loop-k
 loop-again c =
-    let term = c.before.before in
-    let coefficient = term.before.before in
-    let test = coefficient.before in
-    let head = test.before in
-    turns_next (ieee binary64) _ _ _ head.loop.invariant (omega (arith, test.loop-test.true)) _ _
-    coefficient.reciprocal-factorial.ensures term.taylor-term6.ensures
+    turns_next (ieee binary64) _ _ _ c.loop-k.invariant (omega (arith, c.loop-k-test.true)) _ _
+    c.reciprocal_factorial-coefficient.ensures c.taylor_term6.ensures
 
-same_length : tie.Need-same-length invariant-loop decreases-loop
-same_length c = omega (arith, c.before.loop.invariant.terms.length-kept)
+same_length : tie.Need-shape_of-work invariant-loop-k decreases-loop-k
+same_length c = omega (arith, c.loop-k.invariant.terms.length-kept)
 
-returns : tie.Need-returns invariant-loop decreases-loop
+returns : tie.Need-returns invariant-loop-k decreases-loop-k
 returns c =
-    let head = c.before in
-    let copied = head.before.before.before in
-    let start = copied.before.before.before.before.before.before.before.before.before.before.before.before in
-    turns-all (ieee binary64) _ _ _ start.args.work.now _ (omega (arith, start.requires.1.1.1)) (omega arith)
-    copied.copy_within.ensures head.loop.invariant c.loop-test.false
+    turns-all (ieee binary64) _ _ _ c.args.work.now _ (omega (arith, c.requires.1.1.1)) (omega arith)
+    c.copy_within.ensures c.loop-k.invariant c.loop-k-test.false
 
-pub taylor6-spec : {M : Type 1} → statement M
-taylor6-spec =
+pub taylor6_spec : {M : Type 1} → statement M
+taylor6_spec =
     tie.close
     (tie.spec
-    invariant-loop
-    decreases-loop
+    invariant-loop-k
+    decreases-loop-k
     copy-within-requires
     loop-holds
     add-reciprocal-factorial

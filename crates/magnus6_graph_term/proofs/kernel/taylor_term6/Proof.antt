@@ -11,117 +11,76 @@ use Rattle.magnus6_graph_parts.proofs.Omega6Parts.{term6-added}
 use Rattle.magnus6_graph_term.proofs.kernel.taylor_term6.Statement.{statement}
 use Rattle.magnus6_graph_term.proofs.kernel.taylor_term6.Tie as tie
 
-form-at-v-requires : tie.Need-form-at-v-requires
+form-at-v-requires : tie.Need-form_at_v-requires
 form-at-v-requires c κs =
-    let start = c.before.before.before.before.before.before.before.before.before.before.before in
-    (start.requires.0, (start.requires.1.0, (start.requires.1.1.0, omega (arith, start.requires.1.1.1))))
+    (c.requires.0, (c.requires.1.0, (c.requires.1.1.0, omega (arith, c.requires.1.1.1))))
 
-mul-form-lop : tie.Need-overflow-mul-form-lop
+mul-form-lop : tie.Need-overflow_mul-n
 mul-form-lop c =
-    let start = c.before.before.before.before.before.before.before.before.before.before.before.before.before.before.before in
-    omega (arith, start.requires.1.1.1, start.well-formed)
+    omega (arith, c.requires.1.1.1, c.well_formed)
 
-form-lop-requires : tie.Need-form-lop-requires
+form-lop-requires : tie.Need-form_lop-requires
 form-lop-requires c κs =
-    let first = c.before.before.before in
-    let start = first.before.before.before.before.before.before.before.before.before.before.before.before in
-    (start.requires.0, (start.requires.1.0, (start.requires.1.1.0, omega (arith, start.requires.1.1.1, first.form-at-v.auto.1.1.1.1.1.1.1.1.1.1.1.0))))
+    (c.requires.0, (c.requires.1.0, (c.requires.1.1.0, omega (arith, c.requires.1.1.1, c.form_at_v.auto.work))))
 
-mul-form-rop : tie.Need-overflow-mul-form-rop
+mul-form-rop : tie.Need-overflow_mul-n-2
 mul-form-rop c =
-    let start = c.before.before.before.before.before.before.before.before.before.before.before.before.before.before.before.before.before.before.before in
-    omega (arith, start.requires.1.1.1, start.well-formed)
+    omega (arith, c.requires.1.1.1, c.well_formed)
 
-form-rop-requires : tie.Need-form-rop-requires
+form-rop-requires : tie.Need-form_rop-requires
 form-rop-requires c κs =
-    let second = c.before.before.before in
-    let first = second.before.before.before.before in
-    let start = first.before.before.before.before.before.before.before.before.before.before.before.before in
-    (start.requires.0, (start.requires.1.0, (start.requires.1.1.0, omega (arith, start.requires.1.1.1, first.form-at-v.auto.1.1.1.1.1.1.1.1.1.1.1.0, second.form-lop.auto.1.1.1.1.1.1.1.1.1.1.1.0))))
+    (c.requires.0, (c.requires.1.0, (c.requires.1.1.0, omega (arith, c.requires.1.1.1, c.form_at_v.auto.work, c.form_lop.auto.work))))
 
-mul-scaled-difference : tie.Need-overflow-mul-scaled-difference
+mul-scaled-difference : tie.Need-overflow_mul-n-3
 mul-scaled-difference c =
-    let start = c.before.before.before.before.before.before.before.before.before.before.before.before.before.before.before.before.before.before.before.before.before.before.before in
-    omega (arith, start.requires.1.1.1, start.well-formed)
+    omega (arith, c.requires.1.1.1, c.well_formed)
 
-mul-scaled-difference-2 : tie.Need-overflow-mul-scaled-difference-2
+mul-scaled-difference-2 : tie.Need-overflow_mul-n-4
 mul-scaled-difference-2 c =
-    let start = c.before.before.before.before.before.before.before.before.before.before.before.before.before.before.before.before.before.before.before.before.before.before.before in
-    omega (arith, start.requires.1.1.1, start.well-formed)
+    omega (arith, c.requires.1.1.1, c.well_formed)
 
-mul-scaled-difference-3 : tie.Need-overflow-mul-scaled-difference-3
+mul-scaled-difference-3 : tie.Need-overflow_mul-n-5
 mul-scaled-difference-3 c =
-    let start = c.before.before.before.before.before.before.before.before.before.before.before.before.before.before.before.before.before.before.before.before.before.before.before in
-    omega (arith, start.requires.1.1.1, start.well-formed)
+    omega (arith, c.requires.1.1.1, c.well_formed)
 
-scaled-difference-requires : tie.Need-scaled-difference-requires
+scaled-difference-requires : tie.Need-scaled_difference-requires
 scaled-difference-requires c κs =
-    let third = c.before.before.before in
-    let second = third.before.before.before.before in
-    let first = second.before.before.before.before in
-    let start = first.before.before.before.before.before.before.before.before.before.before.before.before in
-    omega (arith, start.requires.1.1.1, first.form-at-v.auto.1.1.1.1.1.1.1.1.1.1.1.0, second.form-lop.auto.1.1.1.1.1.1.1.1.1.1.1.0, third.form-rop.auto.1.1.1.1.1.1.1.1.1.1.1.0)
+    omega (arith, c.requires.1.1.1, c.form_at_v.auto.work, c.form_lop.auto.work, c.form_rop.auto.work)
 
-mul-add : tie.Need-overflow-mul-add
+mul-add : tie.Need-overflow_mul-n-6
 mul-add c =
-    let start = c.before.before.before.before.before.before.before.before.before.before.before.before.before.before.before.before.before.before.before.before.before.before.before.before.before.before.before in
-    omega (arith, start.requires.1.1.1, start.well-formed)
+    omega (arith, c.requires.1.1.1, c.well_formed)
 
-mul-add-2 : tie.Need-overflow-mul-add-2
+mul-add-2 : tie.Need-overflow_mul-n-7
 mul-add-2 c =
-    let start = c.before.before.before.before.before.before.before.before.before.before.before.before.before.before.before.before.before.before.before.before.before.before.before.before.before.before.before in
-    omega (arith, start.requires.1.1.1, start.well-formed)
+    omega (arith, c.requires.1.1.1, c.well_formed)
 
 add-requires : tie.Need-add-requires
 add-requires c κs =
-    let fourth = c.before.before.before in
-    let third = fourth.before.before.before.before in
-    let second = third.before.before.before.before in
-    let first = second.before.before.before.before in
-    let start = first.before.before.before.before.before.before.before.before.before.before.before.before in
-    omega (arith, start.requires.1.1.1, first.form-at-v.auto.1.1.1.1.1.1.1.1.1.1.1.0, second.form-lop.auto.1.1.1.1.1.1.1.1.1.1.1.0, third.form-rop.auto.1.1.1.1.1.1.1.1.1.1.1.0, fourth.scaled-difference.auto.0)
+    omega (arith, c.requires.1.1.1, c.form_at_v.auto.work, c.form_lop.auto.work, c.form_rop.auto.work, c.scaled_difference.auto.work)
 
-add-scaled-requires : tie.Need-add-scaled-requires
+add-scaled-requires : tie.Need-add_scaled-requires
 add-scaled-requires c κs =
-    let fifth = c.before.before.before in
-    let fourth = fifth.before.before.before.before in
-    let third = fourth.before.before.before.before in
-    let second = third.before.before.before.before in
-    let first = second.before.before.before.before in
-    let start = first.before.before.before.before.before.before.before.before.before.before.before.before in
-    omega (arith, start.requires.1.1.1, first.form-at-v.auto.1.1.1.1.1.1.1.1.1.1.1.0, second.form-lop.auto.1.1.1.1.1.1.1.1.1.1.1.0, third.form-rop.auto.1.1.1.1.1.1.1.1.1.1.1.0, fourth.scaled-difference.auto.0, fifth.add.auto.0)
+    omega (arith, c.requires.1.1.1, c.form_at_v.auto.work, c.form_lop.auto.work, c.form_rop.auto.work, c.scaled_difference.auto.work, c.add.auto.work)
 
-same_length : tie.Need-same-length
+same_length : tie.Need-shape_of-work
 same_length c =
-    let sixth = c.before.before in
-    let fifth = sixth.before.before.before.before in
-    let fourth = fifth.before.before.before.before in
-    let third = fourth.before.before.before.before in
-    let second = third.before.before.before.before in
-    let first = second.before.before.before.before in
-    omega (arith, first.form-at-v.auto.1.1.1.1.1.1.1.1.1.1.1.0, second.form-lop.auto.1.1.1.1.1.1.1.1.1.1.1.0, third.form-rop.auto.1.1.1.1.1.1.1.1.1.1.1.0, fourth.scaled-difference.auto.0, fifth.add.auto.0, sixth.add-scaled.auto.0)
+    omega (arith, c.form_at_v.auto.work, c.form_lop.auto.work, c.form_rop.auto.work, c.scaled_difference.auto.work, c.add.auto.work, c.add_scaled.auto.work)
 
 returns : tie.Need-returns
 unfolding of_bits div
 returns c =
-    let sixth = c.before.before in
-    let fifth = sixth.before.before.before.before in
-    let fourth = fifth.before.before.before.before in
-    let third = fourth.before.before.before.before in
-    let second = third.before.before.before.before in
-    let first = second.before.before.before.before in
-    let start = first.before.before.before.before.before.before.before.before.before.before.before.before in
-    let args = start.args in
+    let args = c.args in
     let n = args.n in
-    let L1 = row_product64 n args.row-ptr1.now args.col-idx1.now args.vals1.now in
-    let L2 = row_product64 n args.row-ptr2.now args.col-idx2.now args.vals2.now in
-    let L3 = row_product64 n args.row-ptr3.now args.col-idx3.now args.vals3.now in
+    let L1 = row_product64 n args.row_ptr1.now args.col_idx1.now args.vals1.now in
+    let L2 = row_product64 n args.row_ptr2.now args.col_idx2.now args.vals2.now in
+    let L3 = row_product64 n args.row_ptr3.now args.col_idx3.now args.vals3.now in
     term6-added (ieee binary64) n constants6 args.tau L1 L2 L3 (λ x. length-tabulate _ n) (λ x. length-tabulate _ n) (λ x. length-tabulate _ n)
-    args.coefficient args.work.now _ _ _ _ _ _ start.requires.1.1.1
-    first.form-at-v.ensures second.form-lop.ensures third.form-rop.ensures fourth.scaled-difference.ensures fifth.add.ensures sixth.add-scaled.ensures
+    args.coefficient args.work.now _ _ _ _ _ _ c.requires.1.1.1
+    c.form_at_v.ensures c.form_lop.ensures c.form_rop.ensures c.scaled_difference.ensures c.add.ensures c.add_scaled.ensures
 
-pub taylor-term6-spec : {M : Type 1} → statement M
-taylor-term6-spec =
+pub taylor_term6_spec : {M : Type 1} → statement M
+taylor_term6_spec =
     tie.close
     (tie.spec
     form-at-v-requires

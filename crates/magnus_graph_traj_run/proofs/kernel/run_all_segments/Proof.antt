@@ -11,90 +11,70 @@ use borrow.Author.Rules.{rules}
 use Rattle.magnus_graph_traj_run.proofs.kernel.run_all_segments.Statement.{statement}
 use Rattle.magnus_graph_traj_run.proofs.kernel.run_all_segments.Tie as tie
 
-abbrev invariant-loop : tie.invariant-loop
-invariant-loop n row-ptr col-idx segments breakpoints starts ends laws steps work₀ i₀ work i =
+abbrev invariant-loop-i : tie.invariant-loop-i
+invariant-loop-i n row-ptr col-idx segments breakpoints starts ends laws steps work₀ i₀ work i =
     let t = trajectory n row-ptr col-idx segments breakpoints starts ends laws in
     let course = forward_course breakpoints segments steps in
     Walked (run_step_fault t course) (run_step_image t course forward) n (run_need t) (all_steps steps) segments i work₀ work
 
-abbrev decreases-loop : tie.decreases-loop
-decreases-loop n row-ptr col-idx segments breakpoints starts ends laws steps work₀ i₀ work i =
+abbrev decreases-loop-i : tie.decreases-loop-i
+decreases-loop-i n row-ptr col-idx segments breakpoints starts ends laws steps work₀ i₀ work i =
     segments - i
 
-loop-holds : tie.Need-loop-init invariant-loop decreases-loop
+loop-holds : tie.Need-loop-i-init invariant-loop-i decreases-loop-i
 loop-holds c =
-    let start = c.before.before.before.before.before.before.before in
-    walk_begins (all_steps start.args.steps) _ _ (no-segments start.args.steps)
+    walk_begins (all_steps c.args.steps) _ _ (no-segments c.args.steps)
 
-run-segment-steps-requires : tie.Need-run-segment-steps-requires invariant-loop decreases-loop
+run-segment-steps-requires : tie.Need-run_segment_steps-taken-requires invariant-loop-i decreases-loop-i
 run-segment-steps-requires c κs =
-    let test = c.before in
-    let head = test.before in
-    let start = head.before.before.before.before.before.before.before.before in
-    (start.requires.0, (start.requires.1.0, test.loop-test.true, omega (arith, start.requires.1.1, head.loop.invariant.taken.length-kept)))
+    (c.requires.0, (c.requires.1.0, c.loop-i-test.true, omega (arith, c.requires.1.1, c.loop-i.invariant.taken.length-kept)))
 
-enum_told : tie.Need-enum-told invariant-loop decreases-loop
+enum_told : tie.Need-enum_told-1 invariant-loop-i decreases-loop-i
 enum_told c =
     search rules
 
-enum-told-2 : tie.Need-enum-told-2 invariant-loop decreases-loop
+enum-told-2 : tie.Need-enum_told-in_default invariant-loop-i decreases-loop-i
 enum-told-2 c =
     search rules
 
-same_length : tie.Need-same-length invariant-loop decreases-loop
+same_length : tie.Need-shape_of-work-in_default invariant-loop-i decreases-loop-i
 same_length c =
-    let taken = c.before.before.before.before in
-    let head = taken.before.before.before in
-    omega (arith, taken.run-segment-steps.ensures.length-kept, head.loop.invariant.taken.length-kept)
+    omega (arith, c.run_segment_steps-taken.ensures.length-kept, c.loop-i.invariant.taken.length-kept)
 
-returns : tie.Need-returns invariant-loop decreases-loop
+returns : tie.Need-returns-in_default invariant-loop-i decreases-loop-i
 returns c =
-    let taken = c.before.before.before.before in
-    let test = taken.before.before in
-    let head = test.before in
-    let start = head.before.before.before.before.before.before.before.before in
-    let steps = start.args.steps in
-    walk-stops (all_steps steps) (λ i. segment_steps i steps) (all-grow steps) head.loop.invariant test.loop-test.true
-    taken.run-segment-steps.ensures c.enum-told2.given.1
+    let steps = c.args.steps in
+    walk-stops (all_steps steps) (λ i. segment_steps i steps) (all-grow steps) c.loop-i.invariant c.loop-i-test.true
+    c.run_segment_steps-taken.ensures c.in_default.is
 
-add-i : tie.Need-overflow-add-i invariant-loop decreases-loop
+add-i : tie.Need-overflow_step-i invariant-loop-i decreases-loop-i
 add-i c =
-    let test = c.before.before.before.before.before.before in
-    let start = test.before.before.before.before.before.before.before.before.before in
-    omega (arith, test.loop-test.true, start.requires.0.times.few-segments)
+    omega (arith, c.loop-i-test.true, c.requires.0.times.few-segments)
 
-loop-less : tie.Need-loop-smaller invariant-loop decreases-loop
+loop-less : tie.Need-loop-i-smaller invariant-loop-i decreases-loop-i
 loop-less c =
-    let test = c.before.before.before.before.before.before in
-    omega (arith, test.loop-test.true)
+    omega (arith, c.loop-i-test.true)
 
-loop-again : tie.Need-loop-preserved invariant-loop decreases-loop
+loop-again : tie.Need-loop-i-preserved invariant-loop-i decreases-loop-i
 loop-again c =
-    let taken = c.before.before.before.before in
-    let test = taken.before.before in
-    let head = test.before in
-    let start = head.before.before.before.before.before.before.before.before in
-    let steps = start.args.steps in
-    walk-on (all_steps steps) (λ i. segment_steps i steps) (all-grow steps) head.loop.invariant test.loop-test.true
-    taken.run-segment-steps.ensures c.enum_told.given.1
+    let steps = c.args.steps in
+    walk-on (all_steps steps) (λ i. segment_steps i steps) (all-grow steps) c.loop-i.invariant c.loop-i-test.true
+    c.run_segment_steps-taken.ensures c.in-Accepted.is
 
-same-length-2 : tie.Need-same-length-2 invariant-loop decreases-loop
+same-length-2 : tie.Need-shape_of-work invariant-loop-i decreases-loop-i
 same-length-2 c =
-    let head = c.before in
-    omega (arith, head.loop.invariant.taken.length-kept)
+    omega (arith, c.loop-i.invariant.taken.length-kept)
 
-returns-2 : tie.Need-returns-2 invariant-loop decreases-loop
+returns-2 : tie.Need-returns invariant-loop-i decreases-loop-i
 returns-2 c =
-    let head = c.before in
-    let start = head.before.before.before.before.before.before.before.before in
-    walk_ends (all_steps start.args.steps) head.loop.invariant c.loop-test.false
+    walk_ends (all_steps c.args.steps) c.loop-i.invariant c.loop-i-test.false
 
-pub run-all-segments-spec : {M : Type 1} → statement M
-run-all-segments-spec =
+pub run_all_segments_spec : {M : Type 1} → statement M
+run_all_segments_spec =
     tie.close
     (tie.spec
-    invariant-loop
-    decreases-loop
+    invariant-loop-i
+    decreases-loop-i
     loop-holds
     run-segment-steps-requires
     enum_told

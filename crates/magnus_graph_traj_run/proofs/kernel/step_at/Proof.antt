@@ -10,57 +10,52 @@ use Rattle.magnus_graph_traj_run.proofs.kernel.step_at.Tie as tie
 abbrev lent : tie.Start → Trajectory
 lent c =
     let a = c.args in
-    trajectory a.n a.row-ptr.now a.col-idx.now a.segments a.breakpoints.now a.starts.now a.ends.now a.laws.now
+    trajectory a.n a.row_ptr.now a.col_idx.now a.segments a.breakpoints.now a.starts.now a.ends.now a.laws.now
 
-first-sample-requires : tie.Need-first-sample-requires
+first-sample-requires : tie.Need-first_sample-requires
 first-sample-requires c κs = search rules
 
-fraction-requires : tie.Need-fraction-requires
+fraction-requires : tie.Need-fraction-fraction1-requires
 fraction-requires c κs = search rules
 
-second-sample-requires : tie.Need-second-sample-requires
+second-sample-requires : tie.Need-second_sample-requires
 second-sample-requires c κs = search rules
 
-fraction-requires-2 : tie.Need-fraction-requires-2
+fraction-requires-2 : tie.Need-fraction-fraction2-requires
 fraction-requires-2 c κs = search rules
 
-shared-slice-read-run-step : tie.Need-shared-slice-read-run-step
+shared-slice-read-run-step : tie.Need-bounds-laws-k
 shared-slice-read-run-step c =
     let start = c.before.before.before.before.before.before.before.before.before.before.before.before in
-    law-given (lent start) start.requires.0 start.args.k start.requires.1.0
+    law-given (lent start) c.requires.0 c.args.k c.requires.1.0
 
-run-step-requires : tie.Need-run-step-requires
+run-step-requires : tie.Need-run_step-requires
 run-step-requires c κs =
     let start = c.before.before.before.before.before.before.before.before.before.before.before.before.before in
-    let accepted = start.requires.0 in
-    let l = start.requires.1.0 in (
+    let accepted = c.requires.0 in
+    let l = c.requires.1.0 in (
       accepted.pattern,
       (
-        (law-known (lent start) accepted start.args.k l, few-segments (lent start) accepted start.args.k l),
+        (law-known (lent start) accepted c.args.k l, few-segments (lent start) accepted c.args.k l),
         (
-          lists-given (lent start) accepted start.args.k l,
-          ((accepted.lists.finite-starts, accepted.lists.finite-ends), start.requires.1.1),
+          lists-given (lent start) accepted c.args.k l,
+          ((accepted.lists.finite-starts, accepted.lists.finite-ends), c.requires.1.1),
         ),
       ),
     )
 
-same_length : tie.Need-same-length
+same_length : tie.Need-shape_of-work
 same_length c = search rules
 
 returns : tie.Need-returns
 returns c =
-    let taken = c.before.before in
-    let second = taken.before.before.before in
-    let at2 = second.before in
-    let first = at2.before in
-    let at1 = first.before in
-    let start = at1.before.before.before.before.before.before.before.before in
-    step-at (lent start) start.args.k start.args.segment start.args.t-start start.args.sign _ _ _ _
-    at1.first-sample.ensures first.fraction.ensures at2.second-sample.ensures second.fraction2.ensures
-    taken.run_step.ensures
+    let start = c.before.before.before.before.before.before.before.before.before.before.before.before.before.before.before.before in
+    step-at (lent start) c.args.k c.args.segment c.args.t_start c.args.sign _ _ _ _
+    c.first_sample.ensures c.fraction-fraction1.ensures c.second_sample.ensures c.fraction-fraction2.ensures
+    c.run_step.ensures
 
-pub step-at-spec : {M : Type 1} → statement M
-step-at-spec =
+pub step_at_spec : {M : Type 1} → statement M
+step_at_spec =
     tie.close
     (tie.spec
     first-sample-requires

@@ -13,54 +13,46 @@ use borrow.Author.Rules.{rules}
 use Rattle.magnus_graph_traj_terms.proofs.kernel.constant_term.Statement.{statement}
 use Rattle.magnus_graph_traj_terms.proofs.kernel.constant_term.Tie as tie
 
-mul-a : tie.Need-overflow-mul-a
+mul-a : tie.Need-overflow_mul-a
 mul-a c = search rules
 
-product-in-requires : tie.Need-product-in-requires
+product-in-requires : tie.Need-product_in-requires
 product-in-requires c κs =
-    let start = c.before.before.before.before.before in
-    let pre = start.requires in
+    let pre = c.requires in
     (pre.0.pattern, (pre.0.count, (omega arith, omega arith, omega arith)))
 
-product-in-requires-2 : tie.Need-product-in-requires-2
+product-in-requires-2 : tie.Need-product_in-requires-2
 product-in-requires-2 c κs =
-    let first = c.before.before.before in
-    let start = first.before.before.before.before.before.before in
-    let pre = start.requires in
-    let kept = first.product-in.auto.1.1.1.0 in
+    let pre = c.requires in
+    let kept = c.product_in.auto.work in
     (pre.0.pattern, (pre.0.count, (omega (arith, kept, pre.1), omega (arith, kept, pre.1), omega arith)))
 
-omega-sum-requires : tie.Need-omega-sum-requires
+omega-sum-requires : tie.Need-omega_sum-requires
 omega-sum-requires c κs = search rules
 
-add-scaled-requires : tie.Need-add-scaled-requires
+add-scaled-requires : tie.Need-add_scaled-requires
 add-scaled-requires c κs = search rules
 
-same_length : tie.Need-same-length
+same_length : tie.Need-shape_of-work
 same_length c = search rules
 
 returns : tie.Need-returns
 unfolding of_bits neg
 returns c =
-    let added = c.before.before in
-    let formed = added.before.before.before.before in
-    let second = formed.before.before.before.before in
-    let first = second.before.before.before.before in
-    let start = first.before.before.before.before.before.before in
-    let args = start.args in
-    let room = start.requires.1 in
+    let args = c.args in
+    let room = c.requires.1 in
     let A = ieee binary64 in
     let n = args.n in
-    let L = row_product64 n args.row-ptr.now args.col-idx.now args.vals.now in
+    let L = row_product64 n args.row_ptr.now args.col_idx.now args.vals.now in
     let placed = product-placed A n (3 * n) in
-    let a = placed n (2 * n) L args.work.now _ (λ x. length-tabulate _ n) room (omega arith) first.product-in.ensures in
+    let a = placed n (2 * n) L args.work.now _ (λ x. length-tabulate _ n) room (omega arith) c.product_in.ensures in
     let room1 = room-left A n a (3 * n) room in
-    let d = placed (2 * n) n L _ _ (λ x. length-tabulate _ n) room1 (omega arith) second.product-in2.ensures in
+    let d = placed (2 * n) n L _ _ (λ x. length-tabulate _ n) room1 (omega arith) c.product_in-2.ensures in
     term4-constant-added A n (3 * n) minus_half sqrt3_over12 args.sign args.tau args.coefficient L
-    args.work.now _ _ _ _ room (omega arith) a d formed.omega-sum.ensures added.add-scaled.ensures
+    args.work.now _ _ _ _ room (omega arith) a d c.omega_sum.ensures c.add_scaled.ensures
 
-pub constant-term-spec : {M : Type 1} → statement M
-constant-term-spec =
+pub constant_term_spec : {M : Type 1} → statement M
+constant_term_spec =
     tie.close
     (tie.spec
     mul-a

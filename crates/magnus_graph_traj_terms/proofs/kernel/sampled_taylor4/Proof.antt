@@ -10,79 +10,67 @@ use Rattle.magnus_graph_traj_terms.proofs.SampledTerms.{sampled_omega, sampled-o
 use Rattle.magnus_graph_traj_terms.proofs.kernel.sampled_taylor4.Statement.{statement}
 use Rattle.magnus_graph_traj_terms.proofs.kernel.sampled_taylor4.Tie as tie
 
-abbrev invariant-loop : tie.invariant-loop
-invariant-loop row-ptr col-idx tau sign work₀ n k₀ work k =
+abbrev invariant-loop-k : tie.invariant-loop-k
+invariant-loop-k row-ptr col-idx tau sign work₀ n k₀ work k =
     let W = sampled_omega n row-ptr col-idx sign tau work₀ in
     TermsTurn (ieee binary64) n (7 * n) (reciprocal_factorial binary64) 4 W work₀ k work
 
-abbrev decreases-loop : tie.decreases-loop
-decreases-loop row-ptr col-idx tau sign work₀ n k₀ work k = 4 - k
+abbrev decreases-loop-k : tie.decreases-loop-k
+decreases-loop-k row-ptr col-idx tau sign work₀ n k₀ work k = 4 - k
 
-copy-within-requires : tie.Need-copy-within-requires invariant-loop decreases-loop
+copy-within-requires : tie.Need-copy_within-requires invariant-loop-k decreases-loop-k
 copy-within-requires c κs = omega arith
 
-loop-holds : tie.Need-loop-init invariant-loop decreases-loop
+loop-holds : tie.Need-loop-k-init invariant-loop-k decreases-loop-k
 loop-holds c =
-    let copied = c.before.before in
-    let start = copied.before.before.before.before.before in
-    turns-none (ieee binary64) _ _ _ 4 _ start.args.work.now _ (omega arith) copied.copy_within.ensures
+    turns-none (ieee binary64) _ _ _ 4 _ c.args.work.now _ (omega arith) c.copy_within.ensures
 
-add-reciprocal-factorial : tie.Need-overflow-add-reciprocal-factorial invariant-loop decreases-loop
+add-reciprocal-factorial : tie.Need-overflow_add-k invariant-loop-k decreases-loop-k
 add-reciprocal-factorial c = omega arith
 
-reciprocal-factorial-requires : tie.Need-reciprocal-factorial-requires invariant-loop decreases-loop
+reciprocal-factorial-requires : tie.Need-reciprocal_factorial-coefficient-requires invariant-loop-k decreases-loop-k
 reciprocal-factorial-requires c κs = omega arith
 
-sampled-term-requires : tie.Need-sampled-term-requires invariant-loop decreases-loop
+sampled-term-requires : tie.Need-sampled_term-requires invariant-loop-k decreases-loop-k
 sampled-term-requires c κs =
-    let head = c.before.before.before in
-    let start = head.before.before.before.before.before.before.before.before in
-    (start.requires.0, omega (arith, start.requires.1, head.loop.invariant.terms.length-kept))
+    (c.requires.0, omega (arith, c.requires.1, c.loop-k.invariant.terms.length-kept))
 
-add-k : tie.Need-overflow-add-k invariant-loop decreases-loop
+add-k : tie.Need-overflow_step-k invariant-loop-k decreases-loop-k
 add-k c = omega arith
 
-loop-less : tie.Need-loop-smaller invariant-loop decreases-loop
+loop-less : tie.Need-loop-k-smaller invariant-loop-k decreases-loop-k
 loop-less c = omega arith
 
-loop-again : tie.Need-loop-preserved invariant-loop decreases-loop
+loop-again : tie.Need-loop-k-preserved invariant-loop-k decreases-loop-k
 loop-again c =
-    let term = c.before.before in
-    let coefficient = term.before.before in
-    let test = coefficient.before in
-    let head = test.before in
-    let start = head.before.before.before.before.before.before.before.before in
-    let args = start.args in
+    let args = c.args in
     let n = args.n in
-    let same = sampled-omega-kept n args.row-ptr.now args.col-idx.now args.sign args.tau head.loop.invariant.terms.rest in
-    turns_next (ieee binary64) _ _ _ head.loop.invariant test.loop-test.true _ _
-    coefficient.reciprocal-factorial.ensures
-    (term-same (ieee binary64) n same term.sampled-term.ensures)
+    let same = sampled-omega-kept n args.row_ptr.now args.col_idx.now args.sign args.tau c.loop-k.invariant.terms.rest in
+    turns_next (ieee binary64) _ _ _ c.loop-k.invariant c.loop-k-test.true _ _
+    c.reciprocal_factorial-coefficient.ensures
+    (term-same (ieee binary64) n same c.sampled_term.ensures)
 
-same_length : tie.Need-same-length invariant-loop decreases-loop
-same_length c = omega (arith, c.before.loop.invariant.terms.length-kept)
+same_length : tie.Need-shape_of-work invariant-loop-k decreases-loop-k
+same_length c = omega (arith, c.loop-k.invariant.terms.length-kept)
 
-returns : tie.Need-returns invariant-loop decreases-loop
+returns : tie.Need-returns invariant-loop-k decreases-loop-k
 returns c =
-    let head = c.before in
-    let copied = head.before.before.before in
-    let start = copied.before.before.before.before.before in
-    let args = start.args in
+    let args = c.args in
     let n = args.n in
     let w = args.work.now in
-    let copy = copied.copy_within.ensures in
+    let copy = c.copy_within.ensures in
     let same =
-    sampled-omega-kept n args.row-ptr.now args.col-idx.now args.sign args.tau
-    (copied-rest (ieee binary64) n (7 * n) w _ (omega (arith, start.requires.1)) (omega arith) copy) in
+    sampled-omega-kept n args.row_ptr.now args.col_idx.now args.sign args.tau
+    (copied-rest (ieee binary64) n (7 * n) w _ (omega (arith, c.requires.1)) (omega arith) copy) in
     terms-same (ieee binary64) n same
-    (turns-all (ieee binary64) _ _ _ w _ (omega (arith, start.requires.1)) (omega arith) copy head.loop.invariant c.loop-test.false)
+    (turns-all (ieee binary64) _ _ _ w _ (omega (arith, c.requires.1)) (omega arith) copy c.loop-k.invariant c.loop-k-test.false)
 
-pub sampled-taylor4-spec : {M : Type 1} → statement M
-sampled-taylor4-spec =
+pub sampled_taylor4_spec : {M : Type 1} → statement M
+sampled_taylor4_spec =
     tie.close
     (tie.spec
-    invariant-loop
-    decreases-loop
+    invariant-loop-k
+    decreases-loop-k
     copy-within-requires
     loop-holds
     add-reciprocal-factorial

@@ -11,68 +11,64 @@ use Rattle.varcoef_magnus_graph_traj_constant.proofs.Terms.{constant_omega, cons
 use Rattle.varcoef_magnus_graph_traj_constant.proofs.kernel.constant_taylor4.Statement.{statement}
 use Rattle.varcoef_magnus_graph_traj_constant.proofs.kernel.constant_taylor4.Tie as tie
 
-abbrev invariant-loop : tie.invariant-loop
-invariant-loop row-ptr col-idx vals tau sign s work₀ n k₀ work k =
+abbrev invariant-loop-k : tie.invariant-loop-k
+invariant-loop-k row-ptr col-idx vals tau sign s work₀ n k₀ work k =
     let W = constant_omega n (row_product64 n row-ptr col-idx vals) s sign tau work₀ in
     TermsTurn (ieee binary64) n (6 * n) (reciprocal_factorial binary64) 4 W work₀ k work
 
-abbrev decreases-loop : tie.decreases-loop
-decreases-loop row-ptr col-idx vals tau sign s work₀ n k₀ work k =
+abbrev decreases-loop-k : tie.decreases-loop-k
+decreases-loop-k row-ptr col-idx vals tau sign s work₀ n k₀ work k =
     4 - k
 
-copy-within-requires : tie.Need-copy-within-requires invariant-loop decreases-loop
+copy-within-requires : tie.Need-copy_within-requires invariant-loop-k decreases-loop-k
 copy-within-requires c κs = omega arith
 
-loop-holds : tie.Need-loop-init invariant-loop decreases-loop
-loop-holds c = turns-none (ieee binary64) _ _ _ 4 _ c.before.before.before.before.before.before.before.before.args.work.now _ (omega arith) c.before.before.copy_within.ensures
+loop-holds : tie.Need-loop-k-init invariant-loop-k decreases-loop-k
+loop-holds c = turns-none (ieee binary64) _ _ _ 4 _ c.args.work.now _ (omega arith) c.copy_within.ensures
 
-add-reciprocal-factorial : tie.Need-overflow-add-reciprocal-factorial invariant-loop decreases-loop
+add-reciprocal-factorial : tie.Need-overflow_add-k invariant-loop-k decreases-loop-k
 add-reciprocal-factorial c = omega arith
 
-reciprocal-factorial-requires : tie.Need-reciprocal-factorial-requires invariant-loop decreases-loop
+reciprocal-factorial-requires : tie.Need-reciprocal_factorial-coefficient-requires invariant-loop-k decreases-loop-k
 reciprocal-factorial-requires c κs = omega arith
 
-constant-term-requires : tie.Need-constant-term-requires invariant-loop decreases-loop
+constant-term-requires : tie.Need-constant_term-requires invariant-loop-k decreases-loop-k
 constant-term-requires c κs =
-    let start = c.before.before.before.before.before.before.before.before.before.before.before.before in
-    (start.requires.0, omega (arith, start.requires.1, c.before.before.before.loop.invariant.terms.length-kept))
+    (c.requires.0, omega (arith, c.requires.1, c.loop-k.invariant.terms.length-kept))
 
-add-k : tie.Need-overflow-add-k invariant-loop decreases-loop
+add-k : tie.Need-overflow_step-k invariant-loop-k decreases-loop-k
 add-k c = omega arith
 
-loop-less : tie.Need-loop-smaller invariant-loop decreases-loop
+loop-less : tie.Need-loop-k-smaller invariant-loop-k decreases-loop-k
 loop-less c = omega arith
 
-loop-again : tie.Need-loop-preserved invariant-loop decreases-loop
+loop-again : tie.Need-loop-k-preserved invariant-loop-k decreases-loop-k
 loop-again c =
-    let start = c.before.before.before.before.before.before.before.before.before.before.before.before.before.before.before in
-    let args = start.args in
+    let args = c.args in
     let n = args.n in
-    let head = c.before.before.before.before.before.before in
-    let same = constant-omega-kept n (row_product64 n args.row-ptr.now args.col-idx.now args.vals.now) args.s args.sign args.tau head.loop.invariant.terms.rest in
-    turns_next (ieee binary64) _ _ _ head.loop.invariant c.before.before.before.before.before.loop-test.true _ _
-    c.before.before.before.before.reciprocal-factorial.ensures (term-same (ieee binary64) n same c.before.before.constant-term.ensures)
+    let same = constant-omega-kept n (row_product64 n args.row_ptr.now args.col_idx.now args.vals.now) args.s args.sign args.tau c.loop-k.invariant.terms.rest in
+    turns_next (ieee binary64) _ _ _ c.loop-k.invariant c.loop-k-test.true _ _
+    c.reciprocal_factorial-coefficient.ensures (term-same (ieee binary64) n same c.constant_term.ensures)
 
-same_length : tie.Need-same-length invariant-loop decreases-loop
-same_length c = omega (arith, c.before.loop.invariant.terms.length-kept)
+same_length : tie.Need-shape_of-work invariant-loop-k decreases-loop-k
+same_length c = omega (arith, c.loop-k.invariant.terms.length-kept)
 
-returns : tie.Need-returns invariant-loop decreases-loop
+returns : tie.Need-returns invariant-loop-k decreases-loop-k
 returns c =
-    let start = c.before.before.before.before.before.before.before.before.before.before in
-    let args = start.args in
+    let args = c.args in
     let n = args.n in
     let w = args.work.now in
-    let copy = c.before.before.before.before.copy_within.ensures in
-    let same = constant-omega-kept n (row_product64 n args.row-ptr.now args.col-idx.now args.vals.now) args.s args.sign args.tau (copied-rest (ieee binary64) n (6 * n) w _ (omega (arith, start.requires.1)) (omega arith) copy) in
+    let copy = c.copy_within.ensures in
+    let same = constant-omega-kept n (row_product64 n args.row_ptr.now args.col_idx.now args.vals.now) args.s args.sign args.tau (copied-rest (ieee binary64) n (6 * n) w _ (omega (arith, c.requires.1)) (omega arith) copy) in
     terms-same (ieee binary64) n same
-    (turns-all (ieee binary64) _ _ _ w _ (omega (arith, start.requires.1)) (omega arith) copy c.before.loop.invariant c.loop-test.false)
+    (turns-all (ieee binary64) _ _ _ w _ (omega (arith, c.requires.1)) (omega arith) copy c.loop-k.invariant c.loop-k-test.false)
 
-pub constant-taylor4-spec : {M : Type 1} → statement M
-constant-taylor4-spec =
+pub constant_taylor4_spec : {M : Type 1} → statement M
+constant_taylor4_spec =
     tie.close
     (tie.spec
-    invariant-loop
-    decreases-loop
+    invariant-loop-k
+    decreases-loop-k
     copy-within-requires
     loop-holds
     add-reciprocal-factorial

@@ -9,113 +9,87 @@ use Rattle.varcoef_magnus_graph_traj_step.proofs.Turns.{four-terms}
 use Rattle.varcoef_magnus_graph_traj_step.proofs.kernel.sampled_taylor4.Statement.{statement}
 use Rattle.varcoef_magnus_graph_traj_step.proofs.kernel.sampled_taylor4.Tie as tie
 
-reciprocal-factorial-requires : tie.Need-reciprocal-factorial-requires
+reciprocal-factorial-requires : tie.Need-reciprocal_factorial-first-requires
 reciprocal-factorial-requires c κs = search rules
 
-reciprocal-factorial-requires-2 : tie.Need-reciprocal-factorial-requires-2
+reciprocal-factorial-requires-2 : tie.Need-reciprocal_factorial-second-requires
 reciprocal-factorial-requires-2 c κs = search rules
 
-reciprocal-factorial-requires-3 : tie.Need-reciprocal-factorial-requires-3
+reciprocal-factorial-requires-3 : tie.Need-reciprocal_factorial-third-requires
 reciprocal-factorial-requires-3 c κs = search rules
 
-reciprocal-factorial-requires-4 : tie.Need-reciprocal-factorial-requires-4
+reciprocal-factorial-requires-4 : tie.Need-reciprocal_factorial-fourth-requires
 reciprocal-factorial-requires-4 c κs = search rules
 
-mul-scale-in : tie.Need-overflow-mul-scale-in
+mul-scale-in : tie.Need-overflow_mul-n
 mul-scale-in c = search rules
 
-mul-scale-in-2 : tie.Need-overflow-mul-scale-in-2
+mul-scale-in-2 : tie.Need-overflow_mul-n-2
 mul-scale-in-2 c = search rules
 
-scale-in-requires : tie.Need-scale-in-requires
+scale-in-requires : tie.Need-scale_in-requires
 scale-in-requires c κs = search rules
 
-sampled-term-requires : tie.Need-sampled-term-requires
+sampled-term-requires : tie.Need-sampled_term-requires
 sampled-term-requires c κs =
-    let scaled = c.before.before.before in
-    let start = scaled.before.before.before.before.before.before.before.before.before in
-    (start.requires.0, omega (arith, start.requires.1, scaled.scale_in.auto.0))
+    (c.requires.0, omega (arith, c.requires.1, c.scale_in.auto.work))
 
-sampled-term-requires-2 : tie.Need-sampled-term-requires-2
+sampled-term-requires-2 : tie.Need-sampled_term-requires-2
 sampled-term-requires-2 c κs =
-    let first = c.before.before.before in
-    let scaled = first.before.before.before.before in
-    let start = scaled.before.before.before.before.before.before.before.before.before in
-    (start.requires.0, omega (arith, start.requires.1, scaled.scale_in.auto.0, first.sampled-term.ensures.length-kept))
+    (c.requires.0, omega (arith, c.requires.1, c.scale_in.auto.work, c.sampled_term.ensures.length-kept))
 
-sampled-term-requires-3 : tie.Need-sampled-term-requires-3
-sampled-term-requires-3 c κs =
-    let second = c.before.before.before in
-    let first = second.before.before.before.before in
-    let scaled = first.before.before.before.before in
-    let start = scaled.before.before.before.before.before.before.before.before.before in (
-      start.requires.0,
-      omega (
-        arith,
-        start.requires.1,
-        scaled.scale_in.auto.0,
-        first.sampled-term.ensures.length-kept,
-        second.sampled-term2.ensures.length-kept,
-      ),
-    )
+sampled-term-requires-3 : tie.Need-sampled_term-requires-3
+sampled-term-requires-3 c κs = (
+  c.requires.0,
+  omega (
+    arith,
+    c.requires.1,
+    c.scale_in.auto.work,
+    c.sampled_term.ensures.length-kept,
+    c.sampled_term-2.ensures.length-kept,
+  ),
+)
 
-sampled-term-requires-4 : tie.Need-sampled-term-requires-4
-sampled-term-requires-4 c κs =
-    let third = c.before.before.before in
-    let second = third.before.before.before.before in
-    let first = second.before.before.before.before in
-    let scaled = first.before.before.before.before in
-    let start = scaled.before.before.before.before.before.before.before.before.before in (
-      start.requires.0,
-      omega (
-        arith,
-        start.requires.1,
-        scaled.scale_in.auto.0,
-        first.sampled-term.ensures.length-kept,
-        second.sampled-term2.ensures.length-kept,
-        third.sampled-term3.ensures.length-kept,
-      ),
-    )
+sampled-term-requires-4 : tie.Need-sampled_term-requires-4
+sampled-term-requires-4 c κs = (
+  c.requires.0,
+  omega (
+    arith,
+    c.requires.1,
+    c.scale_in.auto.work,
+    c.sampled_term.ensures.length-kept,
+    c.sampled_term-2.ensures.length-kept,
+    c.sampled_term-3.ensures.length-kept,
+  ),
+)
 
-same_length : tie.Need-same-length
+same_length : tie.Need-shape_of-work
 same_length c =
-    let fourth = c.before.before in
-    let third = fourth.before.before.before.before in
-    let second = third.before.before.before.before in
-    let first = second.before.before.before.before in
-    let scaled = first.before.before.before.before in
     omega (
       arith,
-      scaled.scale_in.auto.0,
-      first.sampled-term.ensures.length-kept,
-      second.sampled-term2.ensures.length-kept,
-      third.sampled-term3.ensures.length-kept,
-      fourth.sampled-term4.ensures.length-kept,
+      c.scale_in.auto.work,
+      c.sampled_term.ensures.length-kept,
+      c.sampled_term-2.ensures.length-kept,
+      c.sampled_term-3.ensures.length-kept,
+      c.sampled_term-4.ensures.length-kept,
     )
 
 returns : tie.Need-returns
 returns c =
-    let fourth = c.before.before in
-    let third = fourth.before.before.before.before in
-    let second = third.before.before.before.before in
-    let first = second.before.before.before.before in
-    let scaled = first.before.before.before.before in
-    let c4 = scaled.before.before in
-    let start = scaled.before.before.before.before.before.before.before.before.before in
-    let args = start.args in
+    let args = c.args in
     let n = args.n in
-    four-terms n (reciprocal_factorial binary64) (sampled_omega n args.row-ptr.now args.col-idx.now args.s args.sign args.tau)
-    (sampled-omega-kept n args.row-ptr.now args.col-idx.now args.s args.sign args.tau) (omega (arith, start.requires.1)) (
-      c4.before.before.before.reciprocal-factorial.ensures,
-      c4.before.before.reciprocal-factorial2.ensures,
-      c4.before.reciprocal-factorial3.ensures,
-      c4.reciprocal-factorial4.ensures,
+    four-terms n (reciprocal_factorial binary64) (sampled_omega n args.row_ptr.now args.col_idx.now args.s args.sign args.tau)
+    (sampled-omega-kept n args.row_ptr.now args.col_idx.now args.s args.sign args.tau) (omega (arith, c.requires.1)) (
+      c.reciprocal_factorial-first.ensures,
+      c.reciprocal_factorial-second.ensures,
+      c.reciprocal_factorial-third.ensures,
+      c.reciprocal_factorial-fourth.ensures,
     )
-    scaled.scale_in.ensures first.sampled-term.ensures second.sampled-term2.ensures third.sampled-term3.ensures
-    fourth.sampled-term4.ensures
+    c.scale_in.ensures c.sampled_term.ensures c.sampled_term-2.ensures c.sampled_term-3.ensures
+    c.sampled_term-4.ensures
 
-pub sampled-taylor4-spec : {M : Type 1} → statement M
-sampled-taylor4-spec =
+pub sampled_taylor4_spec : {M : Type 1} → statement M
+sampled_taylor4_spec =
     tie.close
     (tie.spec
     reciprocal-factorial-requires

@@ -7,50 +7,44 @@ use Rattle.varcoef_magnus_graph_traj_step.proofs.Terms.{sampled-term-added}
 use Rattle.varcoef_magnus_graph_traj_step.proofs.kernel.sampled_term.Statement.{statement}
 use Rattle.varcoef_magnus_graph_traj_step.proofs.kernel.sampled_term.Tie as tie
 
-mul-pairs : tie.Need-overflow-mul-pairs
+mul-pairs : tie.Need-overflow_mul-pairs
 mul-pairs c = search rules
 
-mul-scaled : tie.Need-overflow-mul-scaled
+mul-scaled : tie.Need-overflow_mul-scaled
 mul-scaled c = search rules
 
-mul_next : tie.Need-overflow-mul-next
+mul_next : tie.Need-overflow_mul-next
 mul_next c = search rules
 
-mul-roots : tie.Need-overflow-mul-roots
+mul-roots : tie.Need-overflow_mul-roots
 mul-roots c = search rules
 
-mul-values : tie.Need-overflow-mul-values
+mul-values : tie.Need-overflow_mul-values
 mul-values c = search rules
 
-rooted-products-in-requires : tie.Need-rooted-products-in-requires
+rooted-products-in-requires : tie.Need-rooted_products_in-requires
 rooted-products-in-requires c κs =
-    let start = c.before.before.before.before in
-    let room = start.requires.1 in
-    (start.requires.0, ((omega arith, omega arith, omega arith, omega arith), omega (arith, room)))
+    let room = c.requires.1 in
+    (c.requires.0, ((omega arith, omega arith, omega arith, omega arith), omega (arith, room)))
 
-rooted-term-in-requires : tie.Need-rooted-term-in-requires
+rooted-term-in-requires : tie.Need-rooted_term_in-requires
 rooted-term-in-requires c κs =
-    let products = c.before.before.before in
-    let start = products.before.before.before.before.before in
-    let room = start.requires.1 in
-    let kept = products.rooted-products-in.auto.1.1.0 in
-    (start.requires.0, ((omega arith, omega arith, omega arith, omega arith), (omega arith, omega (arith, room, kept))))
+    let room = c.requires.1 in
+    let kept = c.rooted_products_in.auto.work in
+    (c.requires.0, ((omega arith, omega arith, omega arith, omega arith), (omega arith, omega (arith, room, kept))))
 
-same_length : tie.Need-same-length
+same_length : tie.Need-shape_of-work
 same_length c = search rules
 
 returns : tie.Need-returns
 unfolding of_bits neg
 returns c =
-    let term = c.before.before in
-    let products = term.before.before.before.before in
-    let start = products.before.before.before.before.before in
-    let args = start.args in
-    sampled-term-added args.n args.row-ptr.now args.col-idx.now args.work.now _ start.requires.1
-    products.rooted-products-in.ensures args.s args.sign args.tau args.coefficient _ term.rooted-term-in.ensures
+    let args = c.args in
+    sampled-term-added args.n args.row_ptr.now args.col_idx.now args.work.now _ c.requires.1
+    c.rooted_products_in.ensures args.s args.sign args.tau args.coefficient _ c.rooted_term_in.ensures
 
-pub sampled-term-spec : {M : Type 1} → statement M
-sampled-term-spec =
+pub sampled_term_spec : {M : Type 1} → statement M
+sampled_term_spec =
     tie.close
     (tie.spec
     mul-pairs
