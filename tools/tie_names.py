@@ -65,7 +65,7 @@ class Names:
         m = re.search(r"\.Need-([\w'\-]+)", block)
         if m:
             return self.asked_at.get(self.old_name(plain(m.group(1))))
-        m = re.search(r"\(c : [\w'\-]+\.([A-Z][\w'\-]*)[ )]", block) or re.search(r" : [\w'\-]+\.([A-Z][\w'\-]*)[ \w'\-]* →", block)
+        m = re.search(r"\([\w'\-]+ : [\w'\-]+\.([A-Z][\w'\-]*)[ )]", block) or re.search(r" : [\w'\-]+\.([A-Z][\w'\-]*)[ \w'\-]* →", block)
         return plain(m.group(1)) if m and plain(m.group(1)) in self.parent else None
 
     def asked(self, name):
@@ -97,6 +97,8 @@ class Names:
     def step(self, name, path):
         """The path to a field of the step that was called name."""
         name = plain(name)
+        if name not in self.steps:
+            name = name[0].lower() + name[1:]
         for k in range(len(path), 0, -1):
             if (name, tuple(path[:k])) in self.arms:
                 arm, field = self.arms[name, tuple(path[:k])]
@@ -112,21 +114,23 @@ class Names:
         return None
 
 
-PATH = r"(?<![\w'\-.])(%s)(?![\w'\-])((?:\.before)*)((?:\.[\w'\-\u00ab\u00bb]+)*)"
+PATH = r"(?<![\w'\-.\1])(%s)(?![\w'\-])((?:\.before)*)((?:\.[\w'\-\u00ab\u00bb]+)*)"
 
 
 def turn_paths(text, names, missing):
     """In one answer: names of records go, and steps are fields of c."""
-    local = re.search(r"\blet c(?= [:=])", text)
+    of = re.search(r"\((\w[\w'\-]*) : \w+\.[A-Z][\w'\-]*[ )]", text)
+    base = of.group(1) if of and not re.search(r"\.Need-", text) else "c"
+    local = re.search(r"\blet c(?= [:=])", text) if base == "c" else None
     if local:
         # a local c, which is no record, would hide the goal's
         text = text[:local.start()] + re.sub(r"(?<![\w'\-.])c(?![\w'\-.])", "c'", text[local.start():])
-    aliases, at = ["c"], {"c": names.place_of(text)}
+    aliases, at = [base], {base: names.place_of(text)}
 
-    def chain(base, befores):
-        old = names.up(at.get(base), befores)
-        k = names.befores(at["c"], old) if old else None
-        return (old, "c" + ".before" * k) if k is not None else (old, None)
+    def chain(alias, befores):
+        old = names.up(at.get(alias), befores)
+        k = names.befores(at[base], old) if old else None
+        return (old, base + ".before" * k) if k is not None else (old, None)
 
     while True:
         m = re.search(r"\blet (\w[\w'\-]*)(?: : tie\.[\w'\-]+)? = (" + "|".join(map(re.escape, aliases)) + r")((?:\.before)*) in[ \n]*", text)
@@ -141,7 +145,7 @@ def turn_paths(text, names, missing):
             if now is None:
                 missing.append(f"the record {name}")
                 now = m.group(2) + m.group(3)
-            shown = m.group(0)[3:].replace(m.group(2) + m.group(3) + " in", now.replace("c", "\1", 1) + " in")
+            shown = m.group(0)[3:].replace(m.group(2) + m.group(3) + " in", "\1" + now + " in")
             text = text[:m.start()] + "\0" + shown + rest
             if name not in aliases:
                 aliases.append(name)
@@ -151,25 +155,27 @@ def turn_paths(text, names, missing):
 
     def path(m):
         fields = [f for f in m.group(3).split(".") if f]
+        if m.group(0).startswith("\1"):
+            return m.group(0)
         if not fields:
             old, now = chain(m.group(1), m.group(2).count(".before"))
             if m.group(2) and now is None:
                 missing.append(m.group(0))
             return now if m.group(2) and now else m.group(0)
         if plain(fields[0]) in START:
-            return "c." + ".".join(rust(fields[:2]) + fields[2:])
+            return base + "." + ".".join(rust(fields[:2]) + fields[2:])
         to = names.step(fields[0], fields[1:])
         if to is None:
             missing.append(".".join(fields))
             return m.group(0)
         if to[0] in names.loops.values() and len(to) > 1 and plain(to[1]) in names.variables:
             to[1] = names.variables[plain(to[1])]
-        return "c." + ".".join(to)
+        return base + "." + ".".join(to)
 
     text = re.sub(PATH % "|".join(map(re.escape, aliases)), path, text)
-    for m in re.findall(r"\blet (\w[\w'\-]*) = c\.args in", text):
+    for m in re.findall(r"\blet (\w[\w'\-]*) = " + re.escape(base) + r"\.args in", text):
         text = re.sub(r"(?<![\w'\-.])" + re.escape(m) + r"\.([\w'\-]+)", lambda x: m + "." + x.group(1).replace("-", "_"), text)
-    return text.replace("\0", "let").replace("\1", "c")
+    return text.replace("\0", "let").replace("\1", "")
 
 
 def turn(text, v, function):
@@ -200,7 +206,7 @@ def turn(text, v, function):
             blocks[i] = ""
             if i + 1 < len(blocks):
                 blocks[i + 1] = ""
-    blocks = [turn_paths(b, names, missing) if re.search(r"(?m)^[\w'\-]+ (?:t )?c\b", b) else b for b in blocks]
+    blocks = [turn_paths(b, names, missing) if re.search(r"(?m)^[\w'\-]+ (?:t )?c\b", b) or re.search(r"\(\w[\w'\-]* : \w+\.[A-Z][\w'\-]*[ )]", b) else b for b in blocks]
     text = "".join(blocks)
     for name, goal in gone:
         text = re.sub(r"\s+(?:\(" + re.escape(name) + r" t\)|" + re.escape(name) + r")(?=[\s)])", "", text)
@@ -216,6 +222,16 @@ def turn(text, v, function):
     spec = plain(function) + "-spec"
     text = re.sub(r"(?<![\w'\-])" + re.escape(spec) + r"(?![\w'\-])", function + "_spec", text)
     return text, missing
+
+
+def parameters(crate):
+    """The parameters of the crate's functions."""
+    found = set()
+    for folder, _, files in os.walk(f"crates/{crate}/src"):
+        for name in files:
+            with open(os.path.join(folder, name)) as f:
+                found.update(re.findall(r"\b([a-z]\w*_\w*): ", f.read()))
+    return found
 
 
 def main(crates):
@@ -236,6 +252,8 @@ def main(crates):
             with open(path) as f:
                 old = f.read()
             new, missing = turn(old, v, folder.split("/")[-1].lstrip("+"))
+            rusts = parameters(crate)
+            new = re.sub(r"\.([a-z]\w*(?:-\w+)+)(?![\w'\-])", lambda m: "." + m.group(1).replace("-", "_") if m.group(1).replace("-", "_") in rusts else m.group(0), new)
             if missing:
                 print(f"{crate}: {folder}: not found: {' '.join(missing)}")
             if new != old:

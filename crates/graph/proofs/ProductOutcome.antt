@@ -7,7 +7,6 @@ use lib.Ieee.{Float}
 use Rattle.error.specs.declared.Refusal.{Refusal}
 use Rattle.error.specs.declared.Checked.{Checked}
 use Rattle.error.specs.declared.Checked.TheVariants.{Accepted, Refused}
-use Rattle.error.specs.Checks.{next}
 use Rattle.error.specs.Lengths.{length_fault}
 use Rattle.error.specs.Refusals.{Answers}
 use Rattle.error.proofs.Checks.{refused-here, accepted-then, length-accepted}

@@ -1,6 +1,6 @@
 -- A job of more than 16,384 bytes prints `refused 21 16385`, whatever its bytes are; so a program may read its first 16,385 bytes and
 -- leave the rest. Assumes nothing.
-use mathlib.Core.Path.{◌≡◌, sym, subst, subst⁻¹}
+use mathlib.Core.Path.{◌≡◌, subst, subst⁻¹}
 use mathlib.Core.Logic.{◌↔◌, inl}
 use mathlib.Core.List.{List}
 use Prim.Native.Nat.{ℕ, ◌<◌}

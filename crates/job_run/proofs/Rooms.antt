@@ -3,7 +3,7 @@ use mathlib.Core.Path.{◌≡◌, sym, ap, ◌∙◌}
 use mathlib.Core.List.{List}
 use Prim.Native.Nat.{ℕ, ◌*◌, ◌≤◌, ◌<◌}
 use native.Mathlib.Omega.{arith}
-use lib.ListN.{length, get_or, take, replicate, length-replicate, get_or-replicate}
+use lib.ListN.{length, take, replicate, length-replicate, get_or-replicate}
 use lib.Seq.{length-take-le, get_or-take, ext_get_or}
 use lib.Ieee.{Float, nan, binary64}
 use Rattle.arithmetic.specs.Arithmetic.{ieee}

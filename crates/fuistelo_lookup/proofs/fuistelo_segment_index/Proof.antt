@@ -12,40 +12,40 @@ use Rattle.fuistelo_lookup.proofs.fuistelo_segment_index.Tie as tie
 one-segment : {x y : ℕ} → Segment x ≡ Segment y → x ≡ y
 one-segment p = cc
 
-segment-index-requires : tie.Need-segment-index-requires
+segment-index-requires : tie.Need-segment_index-requires
 segment-index-requires c κs = search rules
 
-enum-known-segment : tie.Need-enum-known-segment
+enum-known-segment : tie.Need-enum_known-segment
 enum-known-segment c = search rules
 
-laid-out-requires : tie.Need-laid-out-requires
+laid-out-requires : tie.Need-laid_out-requires
 laid-out-requires c κs = search rules
 
-enum-known-refusal : tie.Need-enum-known-refusal
+enum-known-refusal : tie.Need-enum_known-refusal
 enum-known-refusal c = search rules
 
 refused-requires : tie.Need-refused-requires
 refused-requires c κs = search rules
 
-returns : tie.Need-returns
+returns : tie.Need-returns-in-Segment
 unfolding check_of
 returns c =
     given-told check_of Segment count refl one-segment
-    c.before.before.before.before.segment-index.ensures.refusal
-    c.before.before.before.before.segment-index.ensures.given
-    c.before.before.segment.given.1
+    c.segment_index.ensures.refusal
+    c.segment_index.ensures.given
+    c.in-Segment.is
     c.laid_out.ensures
 
-returns-2 : tie.Need-returns-2
+returns-2 : tie.Need-returns-in-Refused
 unfolding check_of
 returns-2 c =
     refusal-told check_of Refused _ refl
-    c.before.before.before.before.segment-index.ensures.refusal
-    c.before.before.refusal.given.1
+    c.segment_index.ensures.refusal
+    c.in-Refused.is
     c.refused.ensures
 
-pub fuistelo-segment-index-spec : {M : Type 1} → statement M
-fuistelo-segment-index-spec =
+pub fuistelo_segment_index_spec : {M : Type 1} → statement M
+fuistelo_segment_index_spec =
     tie.close
     (tie.spec
     segment-index-requires

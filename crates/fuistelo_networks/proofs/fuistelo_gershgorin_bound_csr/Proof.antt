@@ -12,40 +12,40 @@ use Rattle.fuistelo_networks.proofs.fuistelo_gershgorin_bound_csr.Tie as tie
 one-bound : {x y : Float} → Bound x ≡ Bound y → x ≡ y
 one-bound p = cc
 
-gershgorin-bound-csr-requires : tie.Need-gershgorin-bound-csr-requires
+gershgorin-bound-csr-requires : tie.Need-gershgorin_bound_csr-requires
 gershgorin-bound-csr-requires c κs = search rules
 
-enum-known-bound : tie.Need-enum-known-bound
+enum-known-bound : tie.Need-enum_known-bound
 enum-known-bound c = search rules
 
-laid-out-requires : tie.Need-laid-out-requires
+laid-out-requires : tie.Need-laid_out-requires
 laid-out-requires c κs = search rules
 
-enum-known-refusal : tie.Need-enum-known-refusal
+enum-known-refusal : tie.Need-enum_known-refusal
 enum-known-refusal c = search rules
 
 refused-requires : tie.Need-refused-requires
 refused-requires c κs = search rules
 
-returns : tie.Need-returns
+returns : tie.Need-returns-in-Bound
 unfolding check_of
 returns c =
     given-told check_of Bound real refl one-bound
-    c.before.before.before.before.gershgorin-bound-csr.ensures.refusal
-    c.before.before.before.before.gershgorin-bound-csr.ensures.given
-    c.before.before.bound.given.1
+    c.gershgorin_bound_csr.ensures.refusal
+    c.gershgorin_bound_csr.ensures.given
+    c.in-Bound.is
     c.laid_out.ensures
 
-returns-2 : tie.Need-returns-2
+returns-2 : tie.Need-returns-in-Refused
 unfolding check_of
 returns-2 c =
     refusal-told check_of Refused _ refl
-    c.before.before.before.before.gershgorin-bound-csr.ensures.refusal
-    c.before.before.refusal.given.1
+    c.gershgorin_bound_csr.ensures.refusal
+    c.in-Refused.is
     c.refused.ensures
 
-pub fuistelo-gershgorin-bound-csr-spec : {M : Type 1} → statement M
-fuistelo-gershgorin-bound-csr-spec =
+pub fuistelo_gershgorin_bound_csr_spec : {M : Type 1} → statement M
+fuistelo_gershgorin_bound_csr_spec =
     tie.close
     (tie.spec
     gershgorin-bound-csr-requires

@@ -3,11 +3,11 @@ use borrow.Author.Rules.{rules}
 use Rattle.fuistelo_signals.proofs.fuistelo_axpy_into_slice.Statement.{statement}
 use Rattle.fuistelo_signals.proofs.fuistelo_axpy_into_slice.Tie as tie
 
-same_length : tie.Need-same-length
+same_length : tie.Need-shape_of-signal
 same_length c = search rules
 
 returns : tie.Need-returns
 returns c = search depth 1
 
-pub fuistelo-axpy-into-slice-spec : {M : Type 1} → statement M
-fuistelo-axpy-into-slice-spec = tie.close (tie.spec (λ c κs. search rules) (λ c κs. search rules) same_length returns)
+pub fuistelo_axpy_into_slice_spec : {M : Type 1} → statement M
+fuistelo_axpy_into_slice_spec = tie.close (tie.spec (λ c κs. search rules) (λ c κs. search rules) same_length returns)

@@ -4,15 +4,15 @@ use borrow.Author.Rules.{rules}
 use Rattle.fuistelo_weighted_steps.proofs.fuistelo_apply_exp_omega4_la_adj_kernel.Statement.{statement}
 use Rattle.fuistelo_weighted_steps.proofs.fuistelo_apply_exp_omega4_la_adj_kernel.Tie as tie
 
-same_length : tie.Need-same-length
+same_length : tie.Need-shape_of-dst
 same_length c = search rules
 
-same-length-2 : tie.Need-same-length-2
+same-length-2 : tie.Need-shape_of-work
 same-length-2 c = search rules
 
 returns : tie.Need-returns
 returns c = search depth 1
 
-pub fuistelo-apply-exp-omega4-la-adj-kernel-spec : {M : Type 1} → statement M
-fuistelo-apply-exp-omega4-la-adj-kernel-spec =
+pub fuistelo_apply_exp_omega4_la_adj_kernel_spec : {M : Type 1} → statement M
+fuistelo_apply_exp_omega4_la_adj_kernel_spec =
     tie.close (tie.spec (λ c κs. search rules) (λ c κs. search rules) same_length same-length-2 returns)

@@ -4,26 +4,26 @@ use borrow.Author.Rules.{rules}
 use Rattle.fuistelo_weighted_steps.proofs.fuistelo_apply_exp_omega4_la_kernel.Statement.{statement}
 use Rattle.fuistelo_weighted_steps.proofs.fuistelo_apply_exp_omega4_la_kernel.Tie as tie
 
-apply-exp-omega4-la-kernel-requires : tie.Need-apply-exp-omega4-la-kernel-requires
+apply-exp-omega4-la-kernel-requires : tie.Need-apply_exp_omega4_la_kernel-requires
 apply-exp-omega4-la-kernel-requires c κs = search rules
 
 checked-requires : tie.Need-checked-requires
 checked-requires c κs = search rules
 
-same_length : tie.Need-same-length
+same_length : tie.Need-shape_of-dst
 same_length c = search rules
 
-same-length-2 : tie.Need-same-length-2
+same-length-2 : tie.Need-shape_of-work
 same-length-2 c = search rules
 
 returns : tie.Need-returns
 returns c =
     record {
       answer = _;
-      promised = c.before.before.before.before.before.apply-exp-omega4-la-kernel.ensures;
+      promised = c.apply_exp_omega4_la_kernel.ensures;
       struct = c.checked.ensures;
     }
 
-pub fuistelo-apply-exp-omega4-la-kernel-spec : {M : Type 1} → statement M
-fuistelo-apply-exp-omega4-la-kernel-spec =
+pub fuistelo_apply_exp_omega4_la_kernel_spec : {M : Type 1} → statement M
+fuistelo_apply_exp_omega4_la_kernel_spec =
     tie.close (tie.spec apply-exp-omega4-la-kernel-requires checked-requires same_length same-length-2 returns)

@@ -18,27 +18,27 @@ rows-of-laplacian : {n : ℕ} {starts cols : List ℕ} {vals : List Float}
     → Rows (length starts - 1) starts (length vals)
 rows-of-laplacian {n} {starts} h = subst (λ (m : ℕ). Rows (length starts - 1) starts m) (sym h.count) (rows-by-starts h.pattern.rows)
 
-from-csr-parts-requires : tie.Need-from-csr-parts-requires
+from-csr-parts-requires : tie.Need-from_csr_parts-checked-requires
 from-csr-parts-requires c κs = search rules
 
-enum-known-checked : tie.Need-enum-known-checked
+enum-known-checked : tie.Need-enum_known-checked
 enum-known-checked c = search rules
 
-enum_told : tie.Need-enum-told
+enum_told : tie.Need-enum_told-1
 enum_told c = search rules
 
 gershgorin-requires : tie.Need-gershgorin-requires
 gershgorin-requires c κs =
-    rows-of-laplacian (laplacian-is _ _ _ _ c.before.before.from-csr-parts.ensures c.enum_told.given.1)
+    rows-of-laplacian (laplacian-is _ _ _ _ c.from_csr_parts-checked.ensures c.in_default.is)
 
-returns : tie.Need-returns
-returns c = bound-given c.before.before.before.from-csr-parts.ensures c.before.enum_told.given.1 c.gershgorin.ensures
+returns : tie.Need-returns-in_default
+returns c = bound-given c.from_csr_parts-checked.ensures c.in_default.is c.gershgorin.ensures
 
-returns-2 : tie.Need-returns-2
-returns-2 c = bound-refused c.before.before.before.from-csr-parts.ensures c.before.checked.given.1
+returns-2 : tie.Need-returns
+returns-2 c = bound-refused c.from_csr_parts-checked.ensures c.in-Refused.is
 
-pub gershgorin-bound-csr-spec : {M : Type 1} → statement M
-gershgorin-bound-csr-spec =
+pub gershgorin_bound_csr_spec : {M : Type 1} → statement M
+gershgorin_bound_csr_spec =
     tie.close
     (tie.spec
     from-csr-parts-requires

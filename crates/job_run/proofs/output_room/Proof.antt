@@ -6,5 +6,5 @@ use Rattle.job_run.proofs.output_room.Tie as tie
 returns : tie.Need-returns
 returns c = repeated-zeros 64
 
-pub output-room-spec : {M : Type 1} → statement M
-output-room-spec = tie.close (tie.spec returns)
+pub output_room_spec : {M : Type 1} → statement M
+output_room_spec = tie.close (tie.spec returns)

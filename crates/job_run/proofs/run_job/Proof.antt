@@ -6,36 +6,33 @@ use borrow.Author.Rules.{rules}
 use Rattle.job_run.proofs.run_job.Statement.{statement}
 use Rattle.job_run.proofs.run_job.Tie as tie
 
-check-job-requires : tie.Need-check-job-requires
+check-job-requires : tie.Need-check_job-checked-requires
 check-job-requires c κs = search rules
 
-enum_told : tie.Need-enum-told
+enum_told : tie.Need-enum_told-1
 enum_told c = search rules
 
-run-step-requires : tie.Need-run-step-requires
-run-step-requires c κs = fault-accepted c.before.before.before.check-job.ensures c.before.enum_told.given.1
+run-step-requires : tie.Need-run_step-requires
+run-step-requires c κs = fault-accepted c.check_job-checked.ensures c.in-Accepted.is
 
-enum-known-checked : tie.Need-enum-known-checked
+enum-known-checked : tie.Need-enum_known-checked
 enum-known-checked c = search rules
 
-write-refused-requires : tie.Need-write-refused-requires
+write-refused-requires : tie.Need-write_refused-requires
 write-refused-requires c κs = search rules
 
-returns : tie.Need-returns
+returns : tie.Need-returns-in-Accepted
 returns c =
-    let checked = c.before.before.before.before in
-    job-written checked.before.before.args.job.now (fault-accepted checked.check-job.ensures c.before.before.enum_told.given.1)
+    job-written c.args.job.now (fault-accepted c.check_job-checked.ensures c.in-Accepted.is)
     c.run_step.ensures
 
-returns-2 : tie.Need-returns-2
+returns-2 : tie.Need-returns-in-Refused
 returns-2 c =
-    let told = c.before.before in
-    let checked = told.before.before.before in
-    malformed-written checked.before.before.args.job.now (sym (fault-is checked.check-job.ensures) ∙ told.before.checked.given.1)
-    c.write-refused.ensures
+    malformed-written c.args.job.now (sym (fault-is c.check_job-checked.ensures) ∙ c.in-Refused.is)
+    c.write_refused.ensures
 
-pub run-job-spec : {M : Type 1} → statement M
-run-job-spec =
+pub run_job_spec : {M : Type 1} → statement M
+run_job_spec =
     tie.close
     (tie.spec
     check-job-requires

@@ -9,47 +9,39 @@ use borrow.Author.Rules.{rules}
 use Rattle.job_run.proofs.run_step.Statement.{statement}
 use Rattle.job_run.proofs.run_step.Tie as tie
 
-head-of-requires : tie.Need-head-of-requires
+head-of-requires : tie.Need-head_of-n-requires
 head-of-requires c κs = search rules
 
-output-room-requires : tie.Need-output-room-requires
+output-room-requires : tie.Need-output_room-output-requires
 output-room-requires c κs = search rules
 
-array-borrow-prefix-output : tie.Need-array-borrow-prefix-output
+array-borrow-prefix-output : tie.Need-slice_bounds-output-end
 array-borrow-prefix-output c =
-    let start = c.before.before.before in
-    omega (arith, (small start.args.job.now start.requires).nodes, c.before.head_of.ensures.1.0.0)
+    omega (arith, (small c.args.job.now c.requires).nodes, c.head_of-n.ensures.1.0.0)
 
-slice-aggregate-dst : tie.Need-slice-aggregate-dst
+slice-aggregate-dst : tie.Need-slice_bounds-dst-end
 slice-aggregate-dst c =
-    let room = c.before in
-    let start = room.before.before.before in
-    zeros-front-length room.output-room.result room.output-room.ensures
-    (omega (arith, (small start.args.job.now start.requires).nodes, room.before.head_of.ensures.1.0.0))
+    zeros-front-length c.output_room-output.result c.output_room-output.ensures
+    (omega (arith, (small c.args.job.now c.requires).nodes, c.head_of-n.ensures.1.0.0))
 
-step-requires : tie.Need-step-requires
+step-requires : tie.Need-step-answer-requires
 step-requires c κs =
-    let room = c.before.before in
-    let start = room.before.before.before in
-    let nodes = room.before.head_of.ensures.1.0.0 in
-    let fits = small start.args.job.now start.requires in
-    (fits, front-zeros room.output-room.ensures (omega (arith, fits.nodes, nodes)) ∙ ap zeros nodes)
+    let nodes = c.head_of-n.ensures.1.0.0 in
+    let fits = small c.args.job.now c.requires in
+    (fits, front-zeros c.output_room-output.ensures (omega (arith, fits.nodes, nodes)) ∙ ap zeros nodes)
 
-write-answer-requires : tie.Need-write-answer-requires
+write-answer-requires : tie.Need-write_answer-requires
 write-answer-requires c κs =
-    let taken = c.before.before.before.before in
-    let room = taken.before.before.before in
-    let start = room.before.before.before in
-    let n = room.before.head_of.result.nodes in
+    let n = c.head_of-n.result.nodes in
     let fits : n ≤ 64 =
-    omega (arith, (small start.args.job.now start.requires).nodes, room.before.head_of.ensures.1.0.0) in
-    omega (arith, fits, zeros-front-length room.output-room.result room.output-room.ensures fits, taken.step.auto.1.0)
+    omega (arith, (small c.args.job.now c.requires).nodes, c.head_of-n.ensures.1.0.0) in
+    omega (arith, fits, zeros-front-length c.output_room-output.result c.output_room-output.ensures fits, c.step-answer.auto.dst)
 
 returns : tie.Need-returns
-returns c = step-written c.before.before.before.before.before.before.step.ensures c.before.write-answer.ensures
+returns c = step-written c.step-answer.ensures c.write_answer.ensures
 
-pub run-step-spec : {M : Type 1} → statement M
-run-step-spec =
+pub run_step_spec : {M : Type 1} → statement M
+run_step_spec =
     tie.close
     (tie.spec
     head-of-requires

@@ -11,51 +11,43 @@ use Rattle.magnus6_graph.proofs.apply_exp_omega6_kernel.Tie as tie
 abbrev lent : tie.Start → Step6Input
 lent c =
     let a = c.args in
-    step6_input (sample a.n1 a.row-ptr1.now a.col-idx1.now a.vals1.now)
-    (sample a.n2 a.row-ptr2.now a.col-idx2.now a.vals2.now)
-    (sample a.n3 a.row-ptr3.now a.col-idx3.now a.vals3.now)
-    a.tau a.rho-bar-max a.convergence-radius-check a.src.now a.dst.now a.work.now
+    step6_input (sample a.n1 a.row_ptr1.now a.col_idx1.now a.vals1.now)
+    (sample a.n2 a.row_ptr2.now a.col_idx2.now a.vals2.now)
+    (sample a.n3 a.row_ptr3.now a.col_idx3.now a.vals3.now)
+    a.tau a.rho_bar_max a.convergence_radius_check a.src.now a.dst.now a.work.now
 
-check-step6-requires : tie.Need-check-step6-requires
+check-step6-requires : tie.Need-check_step6-checked-requires
 check-step6-requires c κs = search rules
 
-enum_told : tie.Need-enum-told
+enum_told : tie.Need-enum_told-1
 enum_told c = search rules
 
-enum-told-2 : tie.Need-enum-told-2
+enum-told-2 : tie.Need-enum_told-in_default
 enum-told-2 c = search rules
 
-returns : tie.Need-returns
-returns c = step6-refused _ c.before.before.check-step6.ensures c.enum-told2.given.1
+returns : tie.Need-returns-in_default
+returns c = step6-refused _ c.check_step6-checked.ensures c.in_default.is
 
 step6-requires : tie.Need-step6-requires
 step6-requires c κs =
-    let told = c.before.before in
-    let checked = told.before.before in
-    let start = checked.before.before.before.before.before.before.before.before.before.before.before.before.before in
-    kernel-asks (lent start) checked.check-step6.ensures told.enum_told.given.1
+    let start = c.before.before.before.before.before.before.before.before.before.before.before.before.before.before.before.before in
+    kernel-asks (lent start) c.check_step6-checked.ensures c.in-Accepted.is
 
-same_length : tie.Need-same-length
+same_length : tie.Need-shape_of-dst
 same_length c = search rules
 
-same-length-2 : tie.Need-same-length-2
+same-length-2 : tie.Need-shape_of-work
 same-length-2 c = search rules
 
-returns-2 : tie.Need-returns-2
+returns-2 : tie.Need-returns
 returns-2 c =
-    let kernel = c.before.before.before.before in
-    let told = kernel.before.before.before in
-    let checked = told.before.before in
-    let values3 = checked.before.before.before.before in
-    let values2 = values3.before.before.before in
-    let values1 = values2.before.before.before in
-    let start = values1.before.before.before in
-    step6-taken (lent start) checked.check-step6.ensures told.enum_told.given.1 kernel.step6.ensures.0
-    kernel.step6.ensures.1 values1.shared-slice-known3.given values2.shared-slice-known6.given
-    values3.shared-slice-known9.given
+    let start = c.before.before.before.before.before.before.before.before.before.before.before.before.before.before.before.before.before.before.before.before.before in
+    step6-taken (lent start) c.check_step6-checked.ensures c.in-Accepted.is c.step6.ensures.0
+    c.step6.ensures.1 c.shared_slice_known-3-1.given c.shared_slice_known-6-1.given
+    c.shared_slice_known-9-1.given
 
-pub apply-exp-omega6-kernel-spec : {M : Type 1} → statement M
-apply-exp-omega6-kernel-spec =
+pub apply_exp_omega6_kernel_spec : {M : Type 1} → statement M
+apply_exp_omega6_kernel_spec =
     tie.close
     (tie.spec
     check-step6-requires

@@ -21,160 +21,130 @@ lent c =
     let a = c.args in
     record {
       along =
-          trajectory a.n a.row-ptr.now a.col-idx.now a.segments a.breakpoints.now a.starts.now a.ends.now
+          trajectory a.n a.row_ptr.now a.col_idx.now a.segments a.breakpoints.now a.starts.now a.ends.now
           a.laws.now;
       steps = a.steps;
-      bound = a.rho-bar-max;
-      checked = a.convergence-radius-check;
+      bound = a.rho_bar_max;
+      checked = a.convergence_radius_check;
       signal = a.src.now;
       output = a.dst.now;
       work = a.work.now;
     }
 
 -- how many steps there are, where the code takes none and where it takes some
-abbrev steps : tie.After-enum-told → ℕ
-steps c = c.before.before.before.before.before.before.before.before.before.before.before.before.args.steps
+abbrev steps : tie.In-Accepted → ℕ
+steps c = c.args.steps
 
-no_steps : (c : tie.Then1) → steps c.before ≡ 0
-no_steps c = c.if1.true
+no_steps : (c : tie.Then-steps-eq0) → steps c.before ≡ 0
+no_steps c = c.if-steps-eq0.true
 
-some-steps : (c : tie.Else1) → 0 < steps c.before
-some-steps c = omega (arith, c.if1.false)
+some-steps : (c : tie.Else-steps-eq0) → 0 < steps c.before
+some-steps c = omega (arith, c.if-steps-eq0.false)
 
-check-adjoint-run-requires : tie.Need-check-adjoint-run-requires
+check-adjoint-run-requires : tie.Need-check_adjoint_run-checked-requires
 check-adjoint-run-requires c κs = search rules
 
-enum_told : tie.Need-enum-told
+enum_told : tie.Need-enum_told-1
 enum_told c = search rules
 
-enum-told-2 : tie.Need-enum-told-2
+enum-told-2 : tie.Need-enum_told-in_default
 enum-told-2 c = search rules
 
-returns : tie.Need-returns
+returns : tie.Need-returns-in_default
 returns c =
-    let made = c.before.before in
-    let start = made.before.before.before.before.before.before.before.before.before.before in
-    run-refused (adjoint_of start.args.tau (lent start)) made.check-adjoint-run.ensures c.enum-told2.given.1
+    let start = c.before.before.before.before.before.before.before.before.before.before.before in
+    run-refused (adjoint_of c.args.tau (lent start)) c.check_adjoint_run-checked.ensures c.in_default.is
 
 store-requires : tie.Need-store-requires
 store-requires c κs =
-    let told = c.before.before in
-    let made = told.before.before in
-    let start = made.before.before.before.before.before.before.before.before.before.before in
-    let ok = adjoint-accepted start.args.tau (lent start) made.check-adjoint-run.ensures told.enum_told.given.1 in
+    let start = c.before.before.before.before.before.before.before.before.before.before.before.before.before in
+    let ok = adjoint-accepted c.args.tau (lent start) c.check_adjoint_run-checked.ensures c.in-Accepted.is in
     omega (arith, ok.signals.signal-length, ok.signals.output-length)
 
-same_length : tie.Need-same-length
+same_length : tie.Need-shape_of-dst-then-steps-eq0
 same_length c = search rules
 
-returns-2 : tie.Need-returns-2
+returns-2 : tie.Need-returns-then-steps-eq0
 returns-2 c =
-    let stored = c.before.before in
-    let none = stored.before.before in
+    let none = c.before.before.before.before in
     let zero = no_steps none in
-    let told = none.before in
-    let made = told.before.before in
-    let ends = made.before.before.before.before.before in
-    let starts = ends.before in
-    let start = starts.before.before.before.before in
-    let check = made.check-adjoint-run.ensures in
-    let yes = told.enum_told.given.1 in
-    let plain = adjoint-plain start.args.tau (lent start) starts.shared-slice-known4.given ends.shared-slice-known5.given
-    (subst T (sym start.well-formed.1.1.1.1.1.1.1.1.0.1) tt) in
-    let lengths = adjoint-lengths start.args.tau (lent start) check yes in
-    run-copied (adjoint_of start.args.tau (lent start)) check yes lengths plain (adjoint-none start.args.steps zero)
-    (stored.store.ensures
-    ∙ ap (λ (n : ℕ). part 0 n start.args.src.now) (lengths.of_output ∙ sym lengths.of-signal)
-    ∙ part-whole start.args.src.now)
+    let start = c.before.before.before.before.before.before.before.before.before.before.before.before.before.before.before.before in
+    let check = c.check_adjoint_run-checked.ensures in
+    let yes = c.in-Accepted.is in
+    let plain = adjoint-plain c.args.tau (lent start) c.shared_slice_known-4-1.given c.shared_slice_known-5-1.given
+    (subst T (sym c.well_formed.1.1.1.1.1.1.1.1.0.1) tt) in
+    let lengths = adjoint-lengths c.args.tau (lent start) check yes in
+    run-copied (adjoint_of c.args.tau (lent start)) check yes lengths plain (adjoint-none c.args.steps zero)
+    (c.store.ensures
+    ∙ ap (λ (n : ℕ). part 0 n c.args.src.now) (lengths.of_output ∙ sym lengths.of-signal)
+    ∙ part-whole c.args.src.now)
 
-mul-need : tie.Need-overflow-mul-need
+mul-need : tie.Need-overflow_mul-need
 mul-need c =
-    let told = c.before in
-    let made = told.before.before in
-    let start = made.before.before.before.before.before.before.before.before.before.before in
-    let ok = adjoint-accepted start.args.tau (lent start) made.check-adjoint-run.ensures told.enum_told.given.1 in
+    let start = c.before.before.before.before.before.before.before.before.before.before.before.before in
+    let ok = adjoint-accepted c.args.tau (lent start) c.check_adjoint_run-checked.ensures c.in-Accepted.is in
     omega (arith, ok.along.accepted.pattern.rows.few-rows)
 
-mul-need-2 : tie.Need-overflow-mul-need-2
+mul-need-2 : tie.Need-overflow_mul-need-2
 mul-need-2 c =
-    let told = c.before in
-    let made = told.before.before in
-    let start = made.before.before.before.before.before.before.before.before.before.before in
-    let ok = adjoint-accepted start.args.tau (lent start) made.check-adjoint-run.ensures told.enum_told.given.1 in
+    let start = c.before.before.before.before.before.before.before.before.before.before.before.before in
+    let ok = adjoint-accepted c.args.tau (lent start) c.check_adjoint_run-checked.ensures c.in-Accepted.is in
     omega (arith, ok.along.accepted.pattern.rows.few-entries)
 
-add-need : tie.Need-overflow-add-need
+add-need : tie.Need-overflow_add-need
 add-need c =
-    let told = c.before in
-    let made = told.before.before in
-    let start = made.before.before.before.before.before.before.before.before.before.before in
-    let ok = adjoint-accepted start.args.tau (lent start) made.check-adjoint-run.ensures told.enum_told.given.1 in
+    let start = c.before.before.before.before.before.before.before.before.before.before.before.before in
+    let ok = adjoint-accepted c.args.tau (lent start) c.check_adjoint_run-checked.ensures c.in-Accepted.is in
     omega (arith, ok.along.accepted.pattern.rows.few-rows, ok.along.accepted.pattern.rows.few-entries)
 
 load-requires : tie.Need-load-requires
 load-requires c κs =
     let left = c.before in
     let some = some-steps left in
-    let told = left.before in
-    let made = told.before.before in
-    let start = made.before.before.before.before.before.before.before.before.before.before in
-    let ok = adjoint-accepted start.args.tau (lent start) made.check-adjoint-run.ensures told.enum_told.given.1 in
+    let start = c.before.before.before.before.before.before.before.before.before.before.before.before.before in
+    let ok = adjoint-accepted c.args.tau (lent start) c.check_adjoint_run-checked.ensures c.in-Accepted.is in
     omega (arith, ok.signals.signal-length, ok.room some)
 
-run-adjoint-steps-requires : tie.Need-run-adjoint-steps-requires
+run-adjoint-steps-requires : tie.Need-run_adjoint_steps-taken-requires
 run-adjoint-steps-requires c κs =
-    let loaded = c.before.before.before in
-    let left = loaded.before.before in
+    let left = c.before.before.before.before.before in
     let some = some-steps left in
-    let told = left.before in
-    let made = told.before.before in
-    let start = made.before.before.before.before.before.before.before.before.before.before in
-    let ok = adjoint-accepted start.args.tau (lent start) made.check-adjoint-run.ensures told.enum_told.given.1 in
-    (ok.along.accepted, ((ok.stepping some).few-steps, omega (arith, ok.room some, loaded.load.auto.0)))
+    let start = c.before.before.before.before.before.before.before.before.before.before.before.before.before.before.before.before.before in
+    let ok = adjoint-accepted c.args.tau (lent start) c.check_adjoint_run-checked.ensures c.in-Accepted.is in
+    (ok.along.accepted, ((ok.stepping some).few-steps, omega (arith, ok.room some, c.load.auto.work)))
 
-finish-run-requires : tie.Need-finish-run-requires
+finish-run-requires : tie.Need-finish_run-requires
 finish-run-requires c κs =
-    let taken = c.before.before.before.before in
-    let loaded = taken.before.before.before.before in
-    let left = loaded.before.before in
+    let left = c.before.before.before.before.before.before.before.before.before.before in
     let some = some-steps left in
-    let told = left.before in
-    let made = told.before.before in
-    let start = made.before.before.before.before.before.before.before.before.before.before in
-    let ok = adjoint-accepted start.args.tau (lent start) made.check-adjoint-run.ensures told.enum_told.given.1 in (
-      omega (arith, ok.room some, loaded.load.auto.0, taken.run-adjoint-steps.ensures.length-kept),
-      omega (arith, ok.signals.output-length, ok.room some, loaded.load.auto.0, taken.run-adjoint-steps.ensures.length-kept),
+    let start = c.before.before.before.before.before.before.before.before.before.before.before.before.before.before.before.before.before.before.before.before.before.before in
+    let ok = adjoint-accepted c.args.tau (lent start) c.check_adjoint_run-checked.ensures c.in-Accepted.is in (
+      omega (arith, ok.room some, c.load.auto.work, c.run_adjoint_steps-taken.ensures.length-kept),
+      omega (arith, ok.signals.output-length, ok.room some, c.load.auto.work, c.run_adjoint_steps-taken.ensures.length-kept),
     )
 
-same-length-2 : tie.Need-same-length-2
+same-length-2 : tie.Need-shape_of-dst
 same-length-2 c = search rules
 
-same-length-3 : tie.Need-same-length-3
+same-length-3 : tie.Need-shape_of-work
 same-length-3 c = search rules
 
-returns-3 : tie.Need-returns-3
+returns-3 : tie.Need-returns
 returns-3 c =
-    let finished = c.before.before.before.before in
-    let taken = finished.before.before.before.before.before in
-    let loaded = taken.before.before.before.before in
-    let left = loaded.before.before in
+    let left = c.before.before.before.before.before.before.before.before.before.before.before.before.before.before.before in
     let some = some-steps left in
-    let told = left.before in
-    let made = told.before.before in
-    let ends = made.before.before.before.before.before in
-    let starts = ends.before in
-    let start = starts.before.before.before.before in
-    let check = made.check-adjoint-run.ensures in
-    let yes = told.enum_told.given.1 in
-    let plain = adjoint-plain start.args.tau (lent start) starts.shared-slice-known4.given ends.shared-slice-known5.given
-    (subst T (sym start.well-formed.1.1.1.1.1.1.1.1.0.1) tt) in
-    run-finished (adjoint_of start.args.tau (lent start)) check yes
-    (adjoint-lengths start.args.tau (lent start) check yes) plain (adjoint-some start.args.steps some)
-    ((adjoint-accepted start.args.tau (lent start) check yes).room some) loaded.load.ensures taken.run-adjoint-steps.ensures
-    finished.finish-run.ensures
+    let start = c.before.before.before.before.before.before.before.before.before.before.before.before.before.before.before.before.before.before.before.before.before.before.before.before.before.before.before in
+    let check = c.check_adjoint_run-checked.ensures in
+    let yes = c.in-Accepted.is in
+    let plain = adjoint-plain c.args.tau (lent start) c.shared_slice_known-4-1.given c.shared_slice_known-5-1.given
+    (subst T (sym c.well_formed.1.1.1.1.1.1.1.1.0.1) tt) in
+    run-finished (adjoint_of c.args.tau (lent start)) check yes
+    (adjoint-lengths c.args.tau (lent start) check yes) plain (adjoint-some c.args.steps some)
+    ((adjoint-accepted c.args.tau (lent start) check yes).room some) c.load.ensures c.run_adjoint_steps-taken.ensures
+    c.finish_run.ensures
 
-pub evolve-state-adjoint-into-spec : {M : Type 1} → statement M
-evolve-state-adjoint-into-spec =
+pub evolve_state_adjoint_into_spec : {M : Type 1} → statement M
+evolve_state_adjoint_into_spec =
     tie.close
     (tie.spec
     check-adjoint-run-requires

@@ -15,105 +15,85 @@ lent c =
     let a = c.args in
     record {
       along =
-          trajectory a.n a.row-ptr.now a.col-idx.now a.segments a.breakpoints.now a.starts.now a.ends.now
+          trajectory a.n a.row_ptr.now a.col_idx.now a.segments a.breakpoints.now a.starts.now a.ends.now
           a.laws.now;
       steps = a.steps;
-      bound = a.rho-bar-max;
-      checked = a.convergence-radius-check;
+      bound = a.rho_bar_max;
+      checked = a.convergence_radius_check;
       signal = a.src.now;
       output = a.dst.now;
       work = a.work.now;
     }
 
-check-run-requires : tie.Need-check-run-requires
+check-run-requires : tie.Need-check_run-checked-requires
 check-run-requires c κs = search rules
 
-enum_told : tie.Need-enum-told
+enum_told : tie.Need-enum_told-1
 enum_told c = search rules
 
-enum-told-2 : tie.Need-enum-told-2
+enum-told-2 : tie.Need-enum_told-in_default
 enum-told-2 c = search rules
 
-returns : tie.Need-returns
+returns : tie.Need-returns-in_default
 returns c =
-    let made = c.before.before in
-    let start = made.before.before.before.before.before.before.before.before.before.before in
-    run-refused (forward_of (lent start)) made.check-run.ensures c.enum-told2.given.1
+    let start = c.before.before.before.before.before.before.before.before.before.before.before in
+    run-refused (forward_of (lent start)) c.check_run-checked.ensures c.in_default.is
 
-mul-need : tie.Need-overflow-mul-need
+mul-need : tie.Need-overflow_mul-need
 mul-need c =
-    let made = c.before.before in
-    let start = made.before.before.before.before.before.before.before.before.before.before in
-    let ok = forward-accepted (lent start) made.check-run.ensures c.enum_told.given.1 in
+    let start = c.before.before.before.before.before.before.before.before.before.before.before in
+    let ok = forward-accepted (lent start) c.check_run-checked.ensures c.in-Accepted.is in
     omega (arith, ok.along.pattern.rows.few-rows)
 
-mul-need-2 : tie.Need-overflow-mul-need-2
+mul-need-2 : tie.Need-overflow_mul-need-2
 mul-need-2 c =
-    let made = c.before.before in
-    let start = made.before.before.before.before.before.before.before.before.before.before in
-    let ok = forward-accepted (lent start) made.check-run.ensures c.enum_told.given.1 in
+    let start = c.before.before.before.before.before.before.before.before.before.before.before in
+    let ok = forward-accepted (lent start) c.check_run-checked.ensures c.in-Accepted.is in
     omega (arith, ok.along.pattern.rows.few-entries)
 
-add-need : tie.Need-overflow-add-need
+add-need : tie.Need-overflow_add-need
 add-need c =
-    let made = c.before.before in
-    let start = made.before.before.before.before.before.before.before.before.before.before in
-    let ok = forward-accepted (lent start) made.check-run.ensures c.enum_told.given.1 in
+    let start = c.before.before.before.before.before.before.before.before.before.before.before in
+    let ok = forward-accepted (lent start) c.check_run-checked.ensures c.in-Accepted.is in
     omega (arith, ok.along.pattern.rows.few-rows, ok.along.pattern.rows.few-entries)
 
 load-requires : tie.Need-load-requires
 load-requires c κs =
-    let told = c.before in
-    let made = told.before.before in
-    let start = made.before.before.before.before.before.before.before.before.before.before in
-    let ok = forward-accepted (lent start) made.check-run.ensures told.enum_told.given.1 in
+    let start = c.before.before.before.before.before.before.before.before.before.before.before.before in
+    let ok = forward-accepted (lent start) c.check_run-checked.ensures c.in-Accepted.is in
     omega (arith, ok.signals.signal-length, ok.room)
 
-run-all-segments-requires : tie.Need-run-all-segments-requires
+run-all-segments-requires : tie.Need-run_all_segments-taken-requires
 run-all-segments-requires c κs =
-    let loaded = c.before.before.before in
-    let told = loaded.before.before in
-    let made = told.before.before in
-    let start = made.before.before.before.before.before.before.before.before.before.before in
-    let ok = forward-accepted (lent start) made.check-run.ensures told.enum_told.given.1 in
-    (ok.along, (ok.few-steps, omega (arith, ok.room, loaded.load.auto.0)))
+    let start = c.before.before.before.before.before.before.before.before.before.before.before.before.before.before.before.before in
+    let ok = forward-accepted (lent start) c.check_run-checked.ensures c.in-Accepted.is in
+    (ok.along, (ok.few-steps, omega (arith, ok.room, c.load.auto.work)))
 
-finish-run-requires : tie.Need-finish-run-requires
+finish-run-requires : tie.Need-finish_run-requires
 finish-run-requires c κs =
-    let taken = c.before.before.before.before in
-    let loaded = taken.before.before.before.before in
-    let told = loaded.before.before in
-    let made = told.before.before in
-    let start = made.before.before.before.before.before.before.before.before.before.before in
-    let ok = forward-accepted (lent start) made.check-run.ensures told.enum_told.given.1 in (
-      omega (arith, ok.room, loaded.load.auto.0, taken.run-all-segments.ensures.length-kept),
-      omega (arith, ok.signals.output-length, ok.room, loaded.load.auto.0, taken.run-all-segments.ensures.length-kept),
+    let start = c.before.before.before.before.before.before.before.before.before.before.before.before.before.before.before.before.before.before.before.before.before in
+    let ok = forward-accepted (lent start) c.check_run-checked.ensures c.in-Accepted.is in (
+      omega (arith, ok.room, c.load.auto.work, c.run_all_segments-taken.ensures.length-kept),
+      omega (arith, ok.signals.output-length, ok.room, c.load.auto.work, c.run_all_segments-taken.ensures.length-kept),
     )
 
-same_length : tie.Need-same-length
+same_length : tie.Need-shape_of-dst
 same_length c = search rules
 
-same-length-2 : tie.Need-same-length-2
+same-length-2 : tie.Need-shape_of-work
 same-length-2 c = search rules
 
-returns-2 : tie.Need-returns-2
+returns-2 : tie.Need-returns
 returns-2 c =
-    let finished = c.before.before.before.before in
-    let taken = finished.before.before.before.before.before in
-    let loaded = taken.before.before.before.before in
-    let told = loaded.before.before in
-    let made = told.before.before in
-    let ends = made.before.before.before.before.before in
-    let starts = ends.before in
-    let start = starts.before.before.before.before in
-    let check = made.check-run.ensures in
-    let yes = told.enum_told.given.1 in
-    let plain = forward-plain (lent start) starts.shared-slice-known4.given ends.shared-slice-known5.given in
+    let start = c.before.before.before.before.before.before.before.before.before.before.before.before.before.before.before.before.before.before.before.before.before.before.before.before.before.before in
+    let check = c.check_run-checked.ensures in
+    let yes = c.in-Accepted.is in
+    let plain = forward-plain (lent start) c.shared_slice_known-4-1.given c.shared_slice_known-5-1.given in
     run-finished (forward_of (lent start)) check yes (forward-lengths (lent start) check yes) plain (forward-some (lent start) check yes)
-    (forward-accepted (lent start) check yes).room loaded.load.ensures taken.run-all-segments.ensures finished.finish-run.ensures
+    (forward-accepted (lent start) check yes).room c.load.ensures c.run_all_segments-taken.ensures c.finish_run.ensures
 
-pub evolve-with-traj-into-spec : {M : Type 1} → statement M
-evolve-with-traj-into-spec =
+pub evolve_with_traj_into_spec : {M : Type 1} → statement M
+evolve_with_traj_into_spec =
     tie.close
     (tie.spec
     check-run-requires

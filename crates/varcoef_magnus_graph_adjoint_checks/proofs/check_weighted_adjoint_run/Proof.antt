@@ -11,105 +11,93 @@ use Rattle.graph_traj_adjoint_checks.proofs.Steps.{no_steps, some-steps}
 use Rattle.varcoef_magnus_graph_adjoint_checks.proofs.check_weighted_adjoint_run.Statement.{statement}
 use Rattle.varcoef_magnus_graph_adjoint_checks.proofs.check_weighted_adjoint_run.Tie as tie
 
-check-adjoint-trajectory-requires : tie.Need-check-adjoint-trajectory-requires
+check-adjoint-trajectory-requires : tie.Need-check_adjoint_trajectory-along-requires
 check-adjoint-trajectory-requires c κs = search rules
 
-enum_told : tie.Need-enum-told
+enum_told : tie.Need-enum_told-1
 enum_told c = search rules
 
-enum-told-2 : tie.Need-enum-told-2
+enum-told-2 : tie.Need-enum_told-in_default
 enum-told-2 c = search rules
 
-returns : tie.Need-returns
+returns : tie.Need-returns-in_default
 unfolding weighted_adjoint_run_fault weighted_bound
 returns c =
-    refused-here _ _ _ _ c.before.before.check-adjoint-trajectory.ensures c.enum-told2.given.1
+    refused-here _ _ _ _ c.check_adjoint_trajectory-along.ensures c.in_default.is
 
-check-weighted-bounds-requires : tie.Need-check-weighted-bounds-requires
+check-weighted-bounds-requires : tie.Need-check_weighted_bounds-bounds-requires
 check-weighted-bounds-requires c κs = search rules
 
-enum-told-3 : tie.Need-enum-told-3
+enum-told-3 : tie.Need-enum_told-in-Accepted-bounds
 enum-told-3 c = search rules
 
-enum-told-4 : tie.Need-enum-told-4
+enum-told-4 : tie.Need-enum_told-in_default-bounds
 enum-told-4 c = search rules
 
-returns-2 : tie.Need-returns-2
+returns-2 : tie.Need-returns-in_default-bounds
 unfolding weighted_adjoint_run_fault weighted_bound
 returns-2 c =
-    let along = c.before.before.before in
-    accepted-then _ _ _ _ along.before.before.check-adjoint-trajectory.ensures along.enum_told.given.1
-    (refused-here _ _ _ _ c.before.before.check-weighted-bounds.ensures c.enum-told4.given.1)
+    accepted-then _ _ _ _ c.check_adjoint_trajectory-along.ensures c.in-Accepted.is
+    (refused-here _ _ _ _ c.check_weighted_bounds-bounds.ensures c.in_default-bounds.is)
 
-check-signals-requires : tie.Need-check-signals-requires
+check-signals-requires : tie.Need-check_signals-requires
 check-signals-requires c κs = search rules
 
-returns-3 : tie.Need-returns-3
+returns-3 : tie.Need-returns-then-steps-eq0
 unfolding weighted_adjoint_run_fault weighted_bound
 returns-3 c =
-    let bounds = c.before.before in
-    let along = bounds.before.before.before in
-    accepted-then _ _ _ _ along.before.before.check-adjoint-trajectory.ensures along.enum_told.given.1
-    (accepted-then _ _ _ _ bounds.before.before.check-weighted-bounds.ensures bounds.enum-told3.given.1
-    (no_steps _ _ _ _ c.before.if1.true c.check-signals.ensures))
+    accepted-then _ _ _ _ c.check_adjoint_trajectory-along.ensures c.in-Accepted.is
+    (accepted-then _ _ _ _ c.check_weighted_bounds-bounds.ensures c.in-Accepted-bounds.is
+    (no_steps _ _ _ _ c.if-steps-eq0.true c.check_signals.ensures))
 
-check-adjoint-steps-requires : tie.Need-check-adjoint-steps-requires
+check-adjoint-steps-requires : tie.Need-check_adjoint_steps-walk-requires
 check-adjoint-steps-requires c κs = search rules
 
-enum-told-5 : tie.Need-enum-told-5
+enum-told-5 : tie.Need-enum_told-in-Accepted-walk
 enum-told-5 c = search rules
 
-enum-told-6 : tie.Need-enum-told-6
+enum-told-6 : tie.Need-enum_told-in_default-walk
 enum-told-6 c = search rules
 
-returns-4 : tie.Need-returns-4
+returns-4 : tie.Need-returns-in_default-walk
 unfolding weighted_adjoint_run_fault weighted_bound
 returns-4 c =
-    let some = c.before.before.before in
-    let bounds = some.before in
-    let along = bounds.before.before.before in
-    accepted-then _ _ _ _ along.before.before.check-adjoint-trajectory.ensures along.enum_told.given.1
-    (accepted-then _ _ _ _ bounds.before.before.check-weighted-bounds.ensures bounds.enum-told3.given.1
-    (some-steps _ _ _ _ some.if1.false
-    (refused-here _ _ _ _ c.before.before.check-adjoint-steps.ensures c.enum-told6.given.1)))
+    accepted-then _ _ _ _ c.check_adjoint_trajectory-along.ensures c.in-Accepted.is
+    (accepted-then _ _ _ _ c.check_weighted_bounds-bounds.ensures c.in-Accepted-bounds.is
+    (some-steps _ _ _ _ c.if-steps-eq0.false
+    (refused-here _ _ _ _ c.check_adjoint_steps-walk.ensures c.in_default-walk.is)))
 
-mul-need : tie.Need-overflow-mul-need
+mul-need : tie.Need-overflow_mul-need
 mul-need c =
-    let along = c.before.before.before.before.before.before.before in
     let rows =
     ((adjoint-trajectory-accepted _).0
-    (sym along.before.before.check-adjoint-trajectory.ensures ∙ along.enum_told.given.1)).accepted.pattern.rows in
+    (sym c.check_adjoint_trajectory-along.ensures ∙ c.in-Accepted.is)).accepted.pattern.rows in
     omega (arith, rows.few-rows, rows.few-entries)
 
-mul-need-2 : tie.Need-overflow-mul-need-2
+mul-need-2 : tie.Need-overflow_mul-need-2
 mul-need-2 c = search rules
 
-add-need : tie.Need-overflow-add-need
+add-need : tie.Need-overflow_add-need
 add-need c =
-    let along = c.before.before.before.before.before.before.before in
     let rows =
     ((adjoint-trajectory-accepted _).0
-    (sym along.before.before.check-adjoint-trajectory.ensures ∙ along.enum_told.given.1)).accepted.pattern.rows in
+    (sym c.check_adjoint_trajectory-along.ensures ∙ c.in-Accepted.is)).accepted.pattern.rows in
     omega (arith, rows.few-rows, rows.few-entries)
 
-check-weighted-run-lengths-requires : tie.Need-check-weighted-run-lengths-requires
+check-weighted-run-lengths-requires : tie.Need-check_weighted_run_lengths-requires
 check-weighted-run-lengths-requires c κs = search rules
 
-returns-5 : tie.Need-returns-5
+returns-5 : tie.Need-returns
 unfolding weighted_adjoint_run_fault weighted_bound
 returns-5 c =
-    let walk = c.before in
-    let some = walk.before.before.before in
-    let bounds = some.before in
-    let along = bounds.before.before.before in
-    accepted-then _ _ _ _ along.before.before.check-adjoint-trajectory.ensures along.enum_told.given.1
-    (accepted-then _ _ _ _ bounds.before.before.check-weighted-bounds.ensures bounds.enum-told3.given.1
-    (some-steps _ _ _ _ some.if1.false
-    (accepted-then _ _ _ _ walk.before.before.check-adjoint-steps.ensures walk.enum-told5.given.1
-    c.check-weighted-run-lengths.ensures)))
+    accepted-then _ _ _ _ c.check_adjoint_trajectory-along.ensures c.in-Accepted.is
+    (accepted-then _ _ _ _ c.check_weighted_bounds-bounds.ensures c.in-Accepted-bounds.is
+    (some-steps _ _ _ _ c.if-steps-eq0.false
+    (accepted-then _ _ _ _ c.check_adjoint_steps-walk.ensures c.in-Accepted-walk.is
+    c.check_weighted_run_lengths.ensures)))
 
-pub check-weighted-adjoint-run-spec : {M : Type 1} → statement M
-check-weighted-adjoint-run-spec =
+pub check_weighted_adjoint_run_spec : {M : Type 1} → statement M
+check_weighted_adjoint_run_spec =
     tie.close
     (tie.spec
     check-adjoint-trajectory-requires

@@ -6,53 +6,52 @@ use Rattle.graph_traj.proofs.Lookup.{Between, between-all, between-later, betwee
 use Rattle.graph_traj.proofs.kernel.segment_index_binary.Statement.{statement}
 use Rattle.graph_traj.proofs.kernel.segment_index_binary.Tie as tie
 
-abbrev invariant-loop : tie.invariant-loop
-invariant-loop segments breakpoints t lo₀ hi₀ lo hi = Between segments breakpoints t lo hi
+abbrev invariant-loop-lo : tie.invariant-loop-lo
+invariant-loop-lo segments breakpoints t lo₀ hi₀ lo hi = Between segments breakpoints t lo hi
 
-abbrev decreases-loop : tie.decreases-loop
-decreases-loop segments breakpoints t lo₀ hi₀ lo hi = hi - lo
+abbrev decreases-loop-lo : tie.decreases-loop-lo
+decreases-loop-lo segments breakpoints t lo₀ hi₀ lo hi = hi - lo
 
-loop-holds : tie.Need-loop-init invariant-loop decreases-loop
+loop-holds : tie.Need-loop-lo-init invariant-loop-lo decreases-loop-lo
 loop-holds c = between-all c.requires.0 c.requires.1
 
-add-loop : tie.Need-overflow-add-loop invariant-loop decreases-loop
+add-loop : tie.Need-overflow_add-lo invariant-loop-lo decreases-loop-lo
 add-loop c = omega arith
 
-sub-mid : tie.Need-overflow-sub-mid invariant-loop decreases-loop
+sub-mid : tie.Need-overflow_sub-mid invariant-loop-lo decreases-loop-lo
 sub-mid c = omega arith
 
-add-mid : tie.Need-overflow-add-mid invariant-loop decreases-loop
+add-mid : tie.Need-overflow_add-mid invariant-loop-lo decreases-loop-lo
 add-mid c = omega arith
 
-mul-if1 : tie.Need-overflow-mul-if1 invariant-loop decreases-loop
+mul-if1 : tie.Need-offset_bounds-breakpoints-mid invariant-loop-lo decreases-loop-lo
 mul-if1 c = omega arith
 
-shared-slice-read-if1 : tie.Need-shared-slice-read-if1 invariant-loop decreases-loop
+shared-slice-read-if1 : tie.Need-bounds-breakpoints-mid invariant-loop-lo decreases-loop-lo
 shared-slice-read-if1 c = omega arith
 
-loop-less : tie.Need-loop-smaller invariant-loop decreases-loop
+loop-less : tie.Need-loop-lo-smaller-then-breakpoints-mid invariant-loop-lo decreases-loop-lo
 loop-less c = omega arith
 
-loop-again : tie.Need-loop-preserved invariant-loop decreases-loop
-loop-again c = between-later c.before.before.before.loop.invariant _ (omega arith) c.if1.true
+loop-again : tie.Need-loop-lo-preserved-then-breakpoints-mid invariant-loop-lo decreases-loop-lo
+loop-again c = between-later c.loop-lo.invariant _ (omega arith) c.if-breakpoints-mid.true
 
-loop-less-2 : tie.Need-loop-smaller-2 invariant-loop decreases-loop
+loop-less-2 : tie.Need-loop-lo-smaller invariant-loop-lo decreases-loop-lo
 loop-less-2 c = omega arith
 
-loop-again-2 : tie.Need-loop-preserved-2 invariant-loop decreases-loop
+loop-again-2 : tie.Need-loop-lo-preserved invariant-loop-lo decreases-loop-lo
 loop-again-2 c =
-    let l = c.before.before.before in
-    between-earlier l.loop.invariant l.before.requires.0 _ (omega arith) (omega arith) c.if1.false
+    between-earlier c.loop-lo.invariant c.requires.0 _ (omega arith) (omega arith) c.if-breakpoints-mid.false
 
-returns : tie.Need-returns invariant-loop decreases-loop
-returns c = between-found c.before.loop.invariant (omega arith)
+returns : tie.Need-returns invariant-loop-lo decreases-loop-lo
+returns c = between-found c.loop-lo.invariant (omega arith)
 
-pub segment-index-binary-spec : {M : Type 1} → statement M
-segment-index-binary-spec =
+pub segment_index_binary_spec : {M : Type 1} → statement M
+segment_index_binary_spec =
     tie.close
     (tie.spec
-    invariant-loop
-    decreases-loop
+    invariant-loop-lo
+    decreases-loop-lo
     loop-holds
     add-loop
     sub-mid

@@ -8,58 +8,54 @@ use Rattle.job_run.proofs.steps.step.Statement.{statement}
 use Rattle.job_run.proofs.steps.step.Tie as tie
 
 -- there is room for m entries
-entries_fit : (head : tie.After-head-of) → head.head_of.result.entries ≤ 512
-entries_fit head = omega (arith, head.before.before.before.requires.0.entries, head.head_of.ensures.1.1.0)
+entries_fit : (head : tie.After-head_of-head) → head.head_of-head.result.entries ≤ 512
+entries_fit head = omega (arith, head.requires.0.entries, head.head_of-head.ensures.1.1.0)
 
 -- there is room for n nodes
-nodes-fit : (head : tie.After-head-of) → head.head_of.result.nodes ≤ 64
-nodes-fit head = omega (arith, head.before.before.before.requires.0.nodes, head.head_of.ensures.1.0.0)
+nodes-fit : (head : tie.After-head_of-head) → head.head_of-head.result.nodes ≤ 64
+nodes-fit head = omega (arith, head.requires.0.nodes, head.head_of-head.ensures.1.0.0)
 
-head-of-requires : tie.Need-head-of-requires
+head-of-requires : tie.Need-head_of-head-requires
 head-of-requires c κs = search rules
 
-add-count : tie.Need-overflow-add-count
+add-count : tie.Need-overflow_add-count
 add-count c = search rules
 
-starts-room-requires : tie.Need-starts-room-requires
+starts-room-requires : tie.Need-starts_room-starts-requires
 starts-room-requires c κs = search rules
 
-array-borrow-prefix-starts : tie.Need-array-borrow-prefix-starts
+array-borrow-prefix-starts : tie.Need-slice_bounds-starts-end
 array-borrow-prefix-starts c = search rules
 
-slice-aggregate-row-ptr : tie.Need-slice-aggregate-row-ptr
+slice-aggregate-row-ptr : tie.Need-slice_bounds-row_ptr-end
 slice-aggregate-row-ptr c =
-    let room = c.before in
-    front_length room.starts-room.result room.starts-room.ensures (omega (arith, nodes-fit room.before.before))
+    front_length c.starts_room-starts.result c.starts_room-starts.ensures (omega (arith, nodes-fit c.before.before.before))
 
-read-row-starts-requires : tie.Need-read-row-starts-requires
+read-row-starts-requires : tie.Need-read_row_starts-requires
 read-row-starts-requires c κs =
-    let room = c.before.before in
-    let head = room.before.before in
-    front-exact room.starts-room.result room.starts-room.ensures (omega (arith, nodes-fit head))
-    (ap (λ (k : ℕ). k + 1) head.head_of.ensures.1.0.0)
+    let head = c.before.before.before.before in
+    front-exact c.starts_room-starts.result c.starts_room-starts.ensures (omega (arith, nodes-fit head))
+    (ap (λ (k : ℕ). k + 1) c.head_of-head.ensures.1.0.0)
 
-columns-room-requires : tie.Need-columns-room-requires
+columns-room-requires : tie.Need-columns_room-columns-requires
 columns-room-requires c κs = search rules
 
-array-borrow-prefix-columns : tie.Need-array-borrow-prefix-columns
+array-borrow-prefix-columns : tie.Need-slice_bounds-columns-end
 array-borrow-prefix-columns c = search rules
 
-slice-aggregate-col-idx : tie.Need-slice-aggregate-col-idx
+slice-aggregate-col-idx : tie.Need-slice_bounds-col_idx-end
 slice-aggregate-col-idx c =
-    let room = c.before in
-    front_length room.columns-room.result room.columns-room.ensures (entries_fit room.before.before.before.before.before.before.before.before)
+    front_length c.columns_room-columns.result c.columns_room-columns.ensures (entries_fit c.before.before.before.before.before.before.before.before.before)
 
-read-columns-requires : tie.Need-read-columns-requires
+read-columns-requires : tie.Need-read_columns-requires
 read-columns-requires c κs =
-    let room = c.before.before in
-    let head = room.before.before.before.before.before.before.before.before in
-    front-exact room.columns-room.result room.columns-room.ensures (entries_fit head) head.head_of.ensures.1.1.0
+    let head = c.before.before.before.before.before.before.before.before.before.before in
+    front-exact c.columns_room-columns.result c.columns_room-columns.ensures (entries_fit head) c.head_of-head.ensures.1.1.0
 
-step-with-pattern-requires : tie.Need-step-with-pattern-requires
+step-with-pattern-requires : tie.Need-step_with_pattern-requires
 step-with-pattern-requires c κs = search rules
 
-same_length : tie.Need-same-length
+same_length : tie.Need-shape_of-dst
 same_length c = search rules
 
 returns : tie.Need-returns

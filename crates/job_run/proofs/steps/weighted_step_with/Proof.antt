@@ -12,69 +12,63 @@ use Rattle.job_run.proofs.steps.weighted_step_with.Statement.{statement}
 use Rattle.job_run.proofs.steps.weighted_step_with.Tie as tie
 
 -- there is room for the work slice, which is +0
-work-fits : (room : tie.After-work-room) → 9 * room.before.before.head_of.result.nodes ≤ 1408
+work-fits : (room : tie.After-work_room-space) → 9 * room.head_of-n.result.nodes ≤ 1408
 work-fits room =
-    let head = room.before.before in omega (arith, head.before.before.before.before.before.before.before.before.before.before.requires.0.nodes, head.head_of.ensures.1.0.0)
+    omega (arith, room.requires.0.nodes, room.head_of-n.ensures.1.0.0)
 
-work-is : (room : tie.After-work-room)
-    → take (9 * room.before.before.head_of.result.nodes) room.work-room.result
-    ≡ zeros (9 * job_nodes room.before.before.before.before.before.before.before.before.before.before.before.before.args.job.now)
-work-is room = work-zeros 9 room.work-room.ensures (work-fits room) room.before.before.head_of.ensures.1.0.0
+work-is : (room : tie.After-work_room-space)
+    → take (9 * room.head_of-n.result.nodes) room.work_room-space.result
+    ≡ zeros (9 * job_nodes room.args.job.now)
+work-is room = work-zeros 9 room.work_room-space.ensures (work-fits room) room.head_of-n.ensures.1.0.0
 
-head-of-requires : tie.Need-head-of-requires
+head-of-requires : tie.Need-head_of-n-requires
 head-of-requires c κs = search rules
 
-numbers-of-requires : tie.Need-numbers-of-requires
+numbers-of-requires : tie.Need-numbers_of-numbers-requires
 numbers-of-requires c κs = search rules
 
-work-room-requires : tie.Need-work-room-requires
+work-room-requires : tie.Need-work_room-space-requires
 work-room-requires c κs = search rules
 
-mul-need : tie.Need-overflow-mul-need
+mul-need : tie.Need-overflow_mul-need
 mul-need c = search rules
 
-array-borrow-prefix-space : tie.Need-array-borrow-prefix-space
+array-borrow-prefix-space : tie.Need-slice_bounds-space-end
 array-borrow-prefix-space c = search rules
 
-slice-aggregate-work : tie.Need-slice-aggregate-work
-slice-aggregate-work c = let room = c.before in zeros-front-length room.work-room.result room.work-room.ensures (work-fits room)
+slice-aggregate-work : tie.Need-slice_bounds-work-end
+slice-aggregate-work c = let room = c.before in zeros-front-length c.work_room-space.result c.work_room-space.ensures (work-fits room)
 
-apply-exp-omega4-la-adj-kernel-requires : tie.Need-apply-exp-omega4-la-adj-kernel-requires
+apply-exp-omega4-la-adj-kernel-requires : tie.Need-apply_exp_omega4_la_adj_kernel-requires
 apply-exp-omega4-la-adj-kernel-requires c κs = search rules
 
-same_length : tie.Need-same-length
+same_length : tie.Need-shape_of-dst-then-numbers
 same_length c = search rules
 
-returns : tie.Need-returns
+returns : tie.Need-returns-then-numbers
 returns c =
-    let call = c.before.before.before in
-    let branch = call.before.before in
-    let room = branch.before.before in
-    let numbers = room.before.Numbers-of.ensures in
-    let start = room.before.before.before.before.before.before.before.before.before.before.before.before in
-    let job = job_of start.args.job.now in
-    weighted-taken job room.before.before.head_of.ensures.1.0.0 start.requires.1.0 numbers start.requires.1.1.0 (work-is room) start.requires.1.1.1.0 start.requires.1.1.1.1
-    (adjoint-sign job (sym numbers.adjoint-is ∙ branch.if1.true)) call.apply-exp-omega4-la-adj-kernel.ensures
+    let room = c.before.before.before.before.before.before.before in
+    let numbers = c.numbers_of-numbers.ensures in
+    let job = job_of c.args.job.now in
+    weighted-taken job c.head_of-n.ensures.1.0.0 c.requires.1.0 numbers c.requires.1.1.0 (work-is room) c.requires.1.1.1.0 c.requires.1.1.1.1
+    (adjoint-sign job (sym numbers.adjoint-is ∙ c.if-numbers.true)) c.apply_exp_omega4_la_adj_kernel.ensures
 
-apply-exp-omega4-la-kernel-requires : tie.Need-apply-exp-omega4-la-kernel-requires
+apply-exp-omega4-la-kernel-requires : tie.Need-apply_exp_omega4_la_kernel-requires
 apply-exp-omega4-la-kernel-requires c κs = search rules
 
-same-length-2 : tie.Need-same-length-2
+same-length-2 : tie.Need-shape_of-dst
 same-length-2 c = search rules
 
-returns-2 : tie.Need-returns-2
+returns-2 : tie.Need-returns
 returns-2 c =
-    let call = c.before.before.before in
-    let branch = call.before.before in
-    let room = branch.before.before in
-    let numbers = room.before.Numbers-of.ensures in
-    let start = room.before.before.before.before.before.before.before.before.before.before.before.before in
-    let job = job_of start.args.job.now in
-    weighted-taken job room.before.before.head_of.ensures.1.0.0 start.requires.1.0 numbers start.requires.1.1.0 (work-is room) start.requires.1.1.1.0 start.requires.1.1.1.1
-    (forward-sign job (sym numbers.adjoint-is ∙ branch.if1.false)) call.apply-exp-omega4-la-kernel.ensures
+    let room = c.before.before.before.before.before.before.before in
+    let numbers = c.numbers_of-numbers.ensures in
+    let job = job_of c.args.job.now in
+    weighted-taken job c.head_of-n.ensures.1.0.0 c.requires.1.0 numbers c.requires.1.1.0 (work-is room) c.requires.1.1.1.0 c.requires.1.1.1.1
+    (forward-sign job (sym numbers.adjoint-is ∙ c.if-numbers.false)) c.apply_exp_omega4_la_kernel.ensures
 
-pub weighted-step-with-spec : {M : Type 1} → statement M
-weighted-step-with-spec =
+pub weighted_step_with_spec : {M : Type 1} → statement M
+weighted_step_with_spec =
     tie.close
     (tie.spec
     head-of-requires

@@ -6,5 +6,5 @@ use Rattle.job_run.proofs.steps.work_room.Tie as tie
 returns : tie.Need-returns
 returns c = repeated-zeros 1408
 
-pub work-room-spec : {M : Type 1} → statement M
-work-room-spec = tie.close (tie.spec returns)
+pub work_room_spec : {M : Type 1} → statement M
+work_room_spec = tie.close (tie.spec returns)

@@ -24,106 +24,82 @@ decreases-loop n row-ptr col-idx segments breakpoints starts ends laws tau steps
 abbrev lent : tie.Start invariant-loop decreases-loop → Trajectory
 lent c =
     let a = c.args in
-    trajectory a.n a.row-ptr.now a.col-idx.now a.segments a.breakpoints.now a.starts.now a.ends.now a.laws.now
+    trajectory a.n a.row_ptr.now a.col_idx.now a.segments a.breakpoints.now a.starts.now a.ends.now a.laws.now
 
-shared-slice-read-with-tau : tie.Need-shared-slice-read-with-tau invariant-loop decreases-loop
+shared-slice-read-with-tau : tie.Need-bounds-breakpoints-0 invariant-loop decreases-loop
 shared-slice-read-with-tau c =
-    let start = c.before.before.before.before.before.before.before.before in
-    omega (arith, start.requires.0.times.count)
+    omega (arith, c.requires.0.times.count)
 
-shared-slice-read-with-tau-2 : tie.Need-shared-slice-read-with-tau-2 invariant-loop decreases-loop
+shared-slice-read-with-tau-2 : tie.Need-bounds-breakpoints-1 invariant-loop decreases-loop
 shared-slice-read-with-tau-2 c =
-    let start = c.before.before.before.before.before.before.before.before.before in
-    omega (arith, start.requires.0.times.count, start.requires.0.times.some-segments)
+    omega (arith, c.requires.0.times.count, c.requires.0.times.some-segments)
 
-with-tau-requires : tie.Need-with-tau-requires invariant-loop decreases-loop
+with-tau-requires : tie.Need-with_tau-segment-requires invariant-loop decreases-loop
 with-tau-requires c κs =
     tt
 
 loop-holds : tie.Need-loop-init invariant-loop decreases-loop
 loop-holds c =
-    steps-begin _ _ c.with-tau.ensures
+    steps-begin _ _ c.with_tau-segment.ensures
 
-adjoint-step-start-requires : tie.Need-adjoint-step-start-requires invariant-loop decreases-loop
+adjoint-step-start-requires : tie.Need-adjoint_step_start-t_start-requires invariant-loop decreases-loop
 adjoint-step-start-requires c κs =
-    let head = c.before in
-    let start = head.before.before.before.before.before.before.before.before.before.before.before in
-    (omega (arith, head.loop.invariant.number, c.loop-test.true), start.requires.1.0)
+    (omega (arith, c.loop.invariant.number, c.loop-test.true), c.requires.1.0)
 
-step-at-requires : tie.Need-step-at-requires invariant-loop decreases-loop
+step-at-requires : tie.Need-step_at-taken-requires invariant-loop decreases-loop
 step-at-requires c κs =
-    let head = c.before.before.before in
-    let start = head.before.before.before.before.before.before.before.before.before.before.before in
-    (start.requires.0, (start.requires.0.times.some-segments, omega (arith, start.requires.1.1, head.loop.invariant.walked.taken.length-kept)))
+    (c.requires.0, (c.requires.0.times.some-segments, omega (arith, c.requires.1.1, c.loop.invariant.walked.taken.length-kept)))
 
-enum_told : tie.Need-enum-told invariant-loop decreases-loop
+enum_told : tie.Need-enum_told-1 invariant-loop decreases-loop
 enum_told c =
     search rules
 
-enum-told-2 : tie.Need-enum-told-2 invariant-loop decreases-loop
+enum-told-2 : tie.Need-enum_told-in_default invariant-loop decreases-loop
 enum-told-2 c =
     search rules
 
-same_length : tie.Need-same-length invariant-loop decreases-loop
+same_length : tie.Need-shape_of-work-in_default invariant-loop decreases-loop
 same_length c =
-    let taken = c.before.before.before.before in
-    let head = taken.before.before.before.before in
-    omega (arith, taken.step-at.ensures.length-kept, head.loop.invariant.walked.taken.length-kept)
+    omega (arith, c.step_at-taken.ensures.length-kept, c.loop.invariant.walked.taken.length-kept)
 
-returns : tie.Need-returns invariant-loop decreases-loop
+returns : tie.Need-returns-in_default invariant-loop decreases-loop
 returns c =
-    let taken = c.before.before.before.before in
-    let begun = taken.before.before in
-    let test = begun.before in
-    let head = test.before in
-    let start = head.before.before.before.before.before.before.before.before.before.before.before in
-    steps-stop head.loop.invariant test.loop-test.true
-    (adjoint-step (lent start) start.args.tau start.args.steps _ head.loop.invariant.here begun.adjoint-step-start.ensures
-    taken.step-at.ensures)
-    c.enum-told2.given.1
+    let start = c.before.before.before.before.before.before.before.before.before.before.before.before.before.before.before.before.before.before in
+    steps-stop c.loop.invariant c.loop-test.true
+    (adjoint-step (lent start) c.args.tau c.args.steps _ c.loop.invariant.here c.adjoint_step_start-t_start.ensures
+    c.step_at-taken.ensures)
+    c.in_default.is
 
-next-requires : tie.Need-next-requires invariant-loop decreases-loop
+next-requires : tie.Need-next-segment-requires invariant-loop decreases-loop
 next-requires c κs =
-    let head = c.before.before.before.before.before.before.before.before in
-    let start = head.before.before.before.before.before.before.before.before.before.before.before in
-    omega (arith, head.loop.invariant.number, head.loop.invariant.walked.within, start.requires.1.0)
+    omega (arith, c.loop.invariant.number, c.loop.invariant.walked.within, c.requires.1.0)
 
-add-counter : tie.Need-overflow-add-counter invariant-loop decreases-loop
+add-counter : tie.Need-overflow_step invariant-loop decreases-loop
 add-counter c =
-    let test = c.before.before.before.before.before.before.before.before in
-    let start = test.before.before.before.before.before.before.before.before.before.before.before.before in
-    omega (arith, test.loop-test.true, start.requires.1.0)
+    omega (arith, c.loop-test.true, c.requires.1.0)
 
 loop-less : tie.Need-loop-smaller invariant-loop decreases-loop
 loop-less c =
-    let test = c.before.before.before.before.before.before.before.before in
-    omega (arith, test.loop-test.true)
+    omega (arith, c.loop-test.true)
 
 loop-again : tie.Need-loop-preserved invariant-loop decreases-loop
 loop-again c =
-    let told = c.before in
-    let taken = told.before.before.before.before in
-    let begun = taken.before.before in
-    let test = begun.before in
-    let head = test.before in
-    let start = head.before.before.before.before.before.before.before.before.before.before.before in
-    steps_on head.loop.invariant test.loop-test.true
-    (adjoint-step (lent start) start.args.tau start.args.steps _ head.loop.invariant.here begun.adjoint-step-start.ensures
-    taken.step-at.ensures)
-    c.next.ensures told.enum_told.given.1
+    let start = c.before.before.before.before.before.before.before.before.before.before.before.before.before.before.before.before.before.before.before in
+    steps_on c.loop.invariant c.loop-test.true
+    (adjoint-step (lent start) c.args.tau c.args.steps _ c.loop.invariant.here c.adjoint_step_start-t_start.ensures
+    c.step_at-taken.ensures)
+    c.next-segment.ensures c.in-Accepted.is
 
-same-length-2 : tie.Need-same-length-2 invariant-loop decreases-loop
+same-length-2 : tie.Need-shape_of-work invariant-loop decreases-loop
 same-length-2 c =
-    let head = c.before in
-    omega (arith, head.loop.invariant.walked.taken.length-kept)
+    omega (arith, c.loop.invariant.walked.taken.length-kept)
 
-returns-2 : tie.Need-returns-2 invariant-loop decreases-loop
+returns-2 : tie.Need-returns invariant-loop decreases-loop
 returns-2 c =
-    let head = c.before in
-    steps-end head.loop.invariant c.loop-test.false
+    steps-end c.loop.invariant c.loop-test.false
 
-pub run-adjoint-steps-spec : {M : Type 1} → statement M
-run-adjoint-steps-spec =
+pub run_adjoint_steps_spec : {M : Type 1} → statement M
+run_adjoint_steps_spec =
     tie.close
     (tie.spec
     invariant-loop

@@ -8,5 +8,5 @@ use Rattle.replay_run_fields.proofs.rooms.laws_room.Tie as tie
 returns : tie.Need-returns
 returns c = sym (length-replicate {A = ℕ} 65536 0)
 
-pub laws-room-spec : {M : Type 1} → statement M
-laws-room-spec = tie.close (tie.spec returns)
+pub laws_room_spec : {M : Type 1} → statement M
+laws_room_spec = tie.close (tie.spec returns)

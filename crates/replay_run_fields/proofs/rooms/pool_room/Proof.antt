@@ -8,5 +8,5 @@ use Rattle.replay_run_fields.proofs.rooms.pool_room.Tie as tie
 returns : tie.Need-returns
 returns c = sym (length-replicate 262144 (of_bits binary64 0))
 
-pub pool-room-spec : {M : Type 1} → statement M
-pool-room-spec = tie.close (tie.spec returns)
+pub pool_room_spec : {M : Type 1} → statement M
+pool_room_spec = tie.close (tie.spec returns)

@@ -8,5 +8,5 @@ use Rattle.replay_run_fields.proofs.rooms.times_room.Tie as tie
 returns : tie.Need-returns
 returns c = sym (length-replicate 65537 (of_bits binary64 0))
 
-pub times-room-spec : {M : Type 1} → statement M
-times-room-spec = tie.close (tie.spec returns)
+pub times_room_spec : {M : Type 1} → statement M
+times_room_spec = tie.close (tie.spec returns)

@@ -8,5 +8,5 @@ use Rattle.replay_run_fields.proofs.rooms.vector_room.Tie as tie
 returns : tie.Need-returns
 returns c = sym (length-replicate 8192 (of_bits binary64 0))
 
-pub vector-room-spec : {M : Type 1} → statement M
-vector-room-spec = tie.close (tie.spec returns)
+pub vector_room_spec : {M : Type 1} → statement M
+vector_room_spec = tie.close (tie.spec returns)

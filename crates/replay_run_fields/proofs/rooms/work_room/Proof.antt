@@ -8,5 +8,5 @@ use Rattle.replay_run_fields.proofs.rooms.work_room.Tie as tie
 returns : tie.Need-returns
 returns c = sym (length-replicate 176129 (of_bits binary64 0))
 
-pub work-room-spec : {M : Type 1} → statement M
-work-room-spec = tie.close (tie.spec returns)
+pub work_room_spec : {M : Type 1} → statement M
+work_room_spec = tie.close (tie.spec returns)

@@ -8,9 +8,6 @@ use Rattle.varcoef_magnus_graph_adjoint_run.proofs.Walk.{ConstantWalked, constan
 use Rattle.varcoef_magnus_graph_adjoint_run.proofs.Walk.{constant-ends, constant-refused}
 use Rattle.varcoef_magnus_graph_adjoint_run.proofs.kernel.constant_steps.Statement.{statement}
 use Rattle.varcoef_magnus_graph_adjoint_run.proofs.kernel.constant_steps.Tie as tie
-use Rattle.varcoef_magnus_graph_checks.proofs.check_sample_weights.Reads as check-sample-weights-reads
-use Rattle.varcoef_magnus_graph_products.proofs.kernel.load_roots.Reads as load-roots-reads
-use Rattle.varcoef_magnus_graph_traj_constant.proofs.kernel.constant_taylor4.Reads as constant-taylor4-reads
 
 abbrev invariant-loop : tie.invariant-loop
 invariant-loop row-ptr col-idx vals a n tau steps work₀ counter₀ work counter =
@@ -20,78 +17,71 @@ abbrev decreases-loop : tie.decreases-loop
 decreases-loop row-ptr col-idx vals a n tau steps work₀ counter₀ work counter =
     steps - counter
 
-check-sample-weights-requires : tie.Need-check-sample-weights-requires invariant-loop decreases-loop
+check-sample-weights-requires : tie.Need-check_sample_weights-positive-requires invariant-loop decreases-loop
 check-sample-weights-requires c κs = search rules
 
-enum_told : tie.Need-enum-told invariant-loop decreases-loop
+enum_told : tie.Need-enum_told-1 invariant-loop decreases-loop
 enum_told c = search rules
 
-enum-told-2 : tie.Need-enum-told-2 invariant-loop decreases-loop
+enum-told-2 : tie.Need-enum_told-in_default invariant-loop decreases-loop
 enum-told-2 c = search rules
 
-returns : tie.Need-returns invariant-loop decreases-loop
+returns : tie.Need-returns-in_default invariant-loop decreases-loop
 returns c =
-    let start = c.before.before.before.before.before.before.before.before in
-    let args = start.args in
-    constant-refused args.n args.row-ptr.now args.col-idx.now args.tau args.vals.now args.a.now
-    _ c.before.before.check-sample-weights.ensures c.enum-told2.given.1 start.requires.1.0.1
+    let args = c.args in
+    constant-refused args.n args.row_ptr.now args.col_idx.now args.tau args.vals.now args.a.now
+    _ c.check_sample_weights-positive.ensures c.in_default.is c.requires.1.0.1
 
-mul-load-roots : tie.Need-overflow-mul-load-roots invariant-loop decreases-loop
+mul-load-roots : tie.Need-overflow_mul-n invariant-loop decreases-loop
 mul-load-roots c =
-    let start = c.before.before.before.before.before.before.before.before.before in
-    omega (arith, start.requires.1.1, start.well-formed)
+    omega (arith, c.requires.1.1, c.well_formed)
 
-load-roots-requires : tie.Need-load-roots-requires invariant-loop decreases-loop
+load-roots-requires : tie.Need-load_roots-requires invariant-loop decreases-loop
 load-roots-requires c κs =
-    let start = c.before.before.before.before.before.before.before.before.before in
-    omega (arith, start.requires.1)
+    omega (arith, c.requires.1)
 
 loop-holds : tie.Need-loop-init invariant-loop decreases-loop
 loop-holds c =
-    let start = c.before.before.before.before.before.before.before.before.before.before.before.before in
-    let args = start.args in
-    constant-starts args.n args.row-ptr.now args.col-idx.now args.tau args.vals.now args.a.now
-    (constant-begins args.n args.row-ptr.now args.col-idx.now args.tau args.vals.now args.a.now
-    args.steps args.work.now _ start.requires.1.0.0 start.requires.1.1 c.before.before.load-roots.ensures)
+    let args = c.args in
+    constant-starts args.n args.row_ptr.now args.col_idx.now args.tau args.vals.now args.a.now
+    (constant-begins args.n args.row_ptr.now args.col_idx.now args.tau args.vals.now args.a.now
+    args.steps args.work.now _ c.requires.1.0.0 c.requires.1.1 c.load_roots.ensures)
 
-constant-taylor4-requires : tie.Need-constant-taylor4-requires invariant-loop decreases-loop
+constant-taylor4-requires : tie.Need-constant_taylor4-requires invariant-loop decreases-loop
 constant-taylor4-requires c κs =
-    let start = c.before.before.before.before.before.before.before.before.before.before.before.before.before.before.before in
-    let kept = c.before.before.loop.invariant.kept.length-kept in
-    let kept1 = c.before.before.before.before.before.load-roots.auto.1.0 in
-    (start.requires.0, omega (arith, start.requires.1.1, kept, kept1))
+    let kept = c.loop.invariant.kept.length-kept in
+    let kept1 = c.load_roots.auto.work in
+    (c.requires.0, omega (arith, c.requires.1.1, kept, kept1))
 
-add-counter : tie.Need-overflow-add-counter invariant-loop decreases-loop
+add-counter : tie.Need-overflow_step invariant-loop decreases-loop
 add-counter c =
-    let start = c.before.before.before.before.before.before.before.before.before.before.before.before.before.before.before.before.before.before in
-    omega (arith, c.before.before.before.before.loop-test.true, start.requires.1.0)
+    omega (arith, c.loop-test.true, c.requires.1.0)
 
 loop-less : tie.Need-loop-smaller invariant-loop decreases-loop
-loop-less c = omega (arith, c.before.before.before.before.loop-test.true)
+loop-less c = omega (arith, c.loop-test.true)
 
 loop-again : tie.Need-loop-preserved invariant-loop decreases-loop
 unfolding of_bits neg
 loop-again c =
-    let args = c.before.before.before.before.before.before.before.before.before.before.before.before.before.before.before.before.before.before.args in
-    constant-on args.n args.row-ptr.now args.col-idx.now args.tau args.vals.now args.a.now
-    c.before.before.before.before.before.loop.invariant c.before.before.before.before.loop-test.true c.before.before.constant-taylor4.ensures
+    let args = c.args in
+    constant-on args.n args.row_ptr.now args.col_idx.now args.tau args.vals.now args.a.now
+    c.loop.invariant c.loop-test.true c.constant_taylor4.ensures
 
-same_length : tie.Need-same-length invariant-loop decreases-loop
-same_length c = omega (arith, c.before.loop.invariant.kept.length-kept, c.before.before.before.before.load-roots.auto.1.0)
+same_length : tie.Need-shape_of-work invariant-loop decreases-loop
+same_length c = omega (arith, c.loop.invariant.kept.length-kept, c.load_roots.auto.work)
 
-returns-2 : tie.Need-returns-2 invariant-loop decreases-loop
+returns-2 : tie.Need-returns invariant-loop decreases-loop
 returns-2 c =
-    let start = c.before.before.before.before.before.before.before.before.before.before.before.before.before.before in
-    let args = start.args in
-    let ready = constant-begins args.n args.row-ptr.now args.col-idx.now args.tau args.vals.now args.a.now
-    args.steps args.work.now _ start.requires.1.0.0 start.requires.1.1 c.before.before.before.before.load-roots.ensures in
-    constant-ends args.n args.row-ptr.now args.col-idx.now args.tau args.vals.now args.a.now
-    c.before.before.before.before.before.before.before.before.check-sample-weights.ensures c.before.before.before.before.before.before.enum_told.given.1
-    (constant-from args.n args.row-ptr.now args.col-idx.now args.tau args.vals.now args.a.now ready c.before.loop.invariant)
+    let args = c.args in
+    let ready = constant-begins args.n args.row_ptr.now args.col_idx.now args.tau args.vals.now args.a.now
+    args.steps args.work.now _ c.requires.1.0.0 c.requires.1.1 c.load_roots.ensures in
+    constant-ends args.n args.row_ptr.now args.col_idx.now args.tau args.vals.now args.a.now
+    c.check_sample_weights-positive.ensures c.in-Accepted.is
+    (constant-from args.n args.row_ptr.now args.col_idx.now args.tau args.vals.now args.a.now ready c.loop.invariant)
     c.loop-test.false
 
-pub constant-steps-spec : {M : Type 1} → statement M
-constant-steps-spec =
+pub constant_steps_spec : {M : Type 1} → statement M
+constant_steps_spec =
     tie.close
     (tie.spec
     invariant-loop

@@ -22,97 +22,75 @@ decreases-loop row-ptr col-idx starts ends a-starts a-ends n steps work₀ first
 
 loop-holds : tie.Need-loop-init invariant-loop decreases-loop
 loop-holds c =
-    let start = c.before.before.before.before.before.before.before in
-    steps-begin _ _ (ap (segment_before start.args.first) start.requires.1.1.1.1.0)
+    steps-begin _ _ (ap (segment_before c.args.first) c.requires.1.1.1.1.0)
 
-sampled-step-at-requires : tie.Need-sampled-step-at-requires invariant-loop decreases-loop
+sampled-step-at-requires : tie.Need-sampled_step_at-taken-requires invariant-loop decreases-loop
 sampled-step-at-requires c κs =
-    let test = c.before in
-    let head = test.before in
-    let start = head.before.before.before.before.before.before.before.before in
-    let walked = head.loop.invariant in
-    let pre = start.requires.1.1.1 in (
-      start.requires.0,
+    let walked = c.loop.invariant in
+    let pre = c.requires.1.1.1 in (
+      c.requires.0,
       (
-        start.requires.1.0,
+        c.requires.1.0,
         (
-          start.requires.1.1.0,
+          c.requires.1.1.0,
           (
             omega (arith, pre.0, walked.walked.taken.length-kept),
-            (omega (arith, walked.number, test.loop-test.true), pre.1.1),
+            (omega (arith, walked.number, c.loop-test.true), pre.1.1),
           ),
         ),
       ),
     )
 
-enum_told : tie.Need-enum-told invariant-loop decreases-loop
+enum_told : tie.Need-enum_told-1 invariant-loop decreases-loop
 enum_told c = search rules
 
-enum-told-2 : tie.Need-enum-told-2 invariant-loop decreases-loop
+enum-told-2 : tie.Need-enum_told-in_default invariant-loop decreases-loop
 enum-told-2 c = search rules
 
-same_length : tie.Need-same-length invariant-loop decreases-loop
+same_length : tie.Need-shape_of-work-in_default invariant-loop decreases-loop
 same_length c =
-    let taken = c.before.before.before.before in
-    let head = taken.before.before.before in
-    omega (arith, taken.sampled-step-at.ensures.kept.length-kept, head.loop.invariant.walked.taken.length-kept)
+    omega (arith, c.sampled_step_at-taken.ensures.kept.length-kept, c.loop.invariant.walked.taken.length-kept)
 
-returns : tie.Need-returns invariant-loop decreases-loop
+returns : tie.Need-returns-in_default invariant-loop decreases-loop
 returns c =
-    let taken = c.before.before.before.before in
-    let test = taken.before.before in
-    let head = test.before in
-    let start = head.before.before.before.before.before.before.before.before in
-    let args = start.args in
-    let walked = head.loop.invariant in
-    steps-stop walked test.loop-test.true
-    (sampled-one args.n args.row-ptr.now args.col-idx.now args.starts.now args.ends.now args.a-starts.now
-    args.a-ends.now args.first args.steps _ _ walked.here taken.sampled-step-at.ensures)
-    c.enum-told2.given.1
+    let args = c.args in
+    let walked = c.loop.invariant in
+    steps-stop walked c.loop-test.true
+    (sampled-one args.n args.row_ptr.now args.col_idx.now args.starts.now args.ends.now args.a_starts.now
+    args.a_ends.now args.first args.steps _ _ walked.here c.sampled_step_at-taken.ensures)
+    c.in_default.is
 
-next-requires : tie.Need-next-requires invariant-loop decreases-loop
+next-requires : tie.Need-next-segment-requires invariant-loop decreases-loop
 next-requires c κs =
-    let head = c.before.before.before.before.before.before.before in
-    let start = head.before.before.before.before.before.before.before.before in
-    omega (arith, head.loop.invariant.number, head.loop.invariant.walked.within, start.requires.1.1.1.1)
+    omega (arith, c.loop.invariant.number, c.loop.invariant.walked.within, c.requires.1.1.1.1)
 
-add-counter : tie.Need-overflow-add-counter invariant-loop decreases-loop
+add-counter : tie.Need-overflow_step invariant-loop decreases-loop
 add-counter c =
-    let test = c.before.before.before.before.before.before.before in
-    let start = test.before.before.before.before.before.before.before.before.before in
-    omega (arith, test.loop-test.true, start.requires.1.1.1.1)
+    omega (arith, c.loop-test.true, c.requires.1.1.1.1)
 
 loop-less : tie.Need-loop-smaller invariant-loop decreases-loop
 loop-less c =
-    let test = c.before.before.before.before.before.before.before in
-    omega (arith, test.loop-test.true)
+    omega (arith, c.loop-test.true)
 
 loop-again : tie.Need-loop-preserved invariant-loop decreases-loop
 loop-again c =
-    let told = c.before in
-    let taken = told.before.before.before.before in
-    let test = taken.before.before in
-    let head = test.before in
-    let start = head.before.before.before.before.before.before.before.before in
-    let args = start.args in
-    let walked = head.loop.invariant in
-    steps_on walked test.loop-test.true
-    (sampled-one args.n args.row-ptr.now args.col-idx.now args.starts.now args.ends.now args.a-starts.now
-    args.a-ends.now args.first args.steps _ _ walked.here taken.sampled-step-at.ensures)
-    c.next.ensures told.enum_told.given.1
+    let args = c.args in
+    let walked = c.loop.invariant in
+    steps_on walked c.loop-test.true
+    (sampled-one args.n args.row_ptr.now args.col_idx.now args.starts.now args.ends.now args.a_starts.now
+    args.a_ends.now args.first args.steps _ _ walked.here c.sampled_step_at-taken.ensures)
+    c.next-segment.ensures c.in-Accepted.is
 
-same-length-2 : tie.Need-same-length-2 invariant-loop decreases-loop
+same-length-2 : tie.Need-shape_of-work invariant-loop decreases-loop
 same-length-2 c =
-    let head = c.before in
-    omega (arith, head.loop.invariant.walked.taken.length-kept)
+    omega (arith, c.loop.invariant.walked.taken.length-kept)
 
-returns-2 : tie.Need-returns-2 invariant-loop decreases-loop
+returns-2 : tie.Need-returns invariant-loop decreases-loop
 returns-2 c =
-    let head = c.before in
-    steps-end head.loop.invariant c.loop-test.false
+    steps-end c.loop.invariant c.loop-test.false
 
-pub sampled-steps-spec : {M : Type 1} → statement M
-sampled-steps-spec =
+pub sampled_steps_spec : {M : Type 1} → statement M
+sampled_steps_spec =
     tie.close
     (tie.spec
     invariant-loop
