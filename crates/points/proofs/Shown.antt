@@ -42,7 +42,7 @@ use Rattle.varcoef_magnus_graph_faults.specs.WeightedStepChecks.{weighted_step_f
 use Rattle.magnus_graph_traj_steps.specs.RunSteps.{first_fault}
 use Rattle.scratch.specs.Parts.{put}
 use Rattle.ieee_square_root.specs.SquareRoot.{square_root}
-use Rattle.points.specs.Points.{Point, points, roots, products, steps, trajectories, x64, reals, answer_or, leaves, root}
+use Rattle.points.specs.Points.{points, roots, products, steps, trajectories, x64, reals, answer_or, leaves, root}
 use Rattle.points.specs.Points.{no_nodes, two_entries_before, product_of, diagonal, swap, commutator, step_of, step_of_tau, job_of}
 use Rattle.points.specs.Points.{weighted_step, weighted_of, breakpoints, lookup, in_segment, outside, one_node, no_steps}
 

@@ -6,28 +6,28 @@ use borrow.Author.Rules.{rules}
 use Rattle.job.proofs.main.Statement.{statement}
 use Rattle.job.proofs.main.Tie as tie
 
-slice-aggregate-read-full : tie.Need-slice-aggregate-read-full
+slice-aggregate-read-full : tie.Need-slice_bounds-read_full-end
 slice-aggregate-read-full c = search rules
 
-read-full-requires : tie.Need-read-full-requires
+read-full-requires : tie.Need-read_full-count-requires
 read-full-requires c κs = search rules
 
-array-share-prefix-job : tie.Need-array-share-prefix-job
+array-share-prefix-job : tie.Need-slice_bounds-job-end
 array-share-prefix-job c = search rules
 
-slice-aggregate-run-job : tie.Need-slice-aggregate-run-job
+slice-aggregate-run-job : tie.Need-slice_bounds-run_job-end
 slice-aggregate-run-job c = search rules
 
-run-job-requires : tie.Need-run-job-requires
+run-job-requires : tie.Need-run_job-length-requires
 run-job-requires c κs = search rules
 
-array-share-prefix-text : tie.Need-array-share-prefix-text
+array-share-prefix-text : tie.Need-slice_bounds-text-end
 array-share-prefix-text c = search rules
 
-slice-aggregate-write-all : tie.Need-slice-aggregate-write-all
-slice-aggregate-write-all c = sym (length-take-le _ c.before.run-job.new.1.0 c.before.run-job.ensures.within)
+slice-aggregate-write-all : tie.Need-slice_bounds-write_all-end
+slice-aggregate-write-all c = sym (length-take-le _ c.run_job-length.new.text c.run_job-length.ensures.within)
 
-write-all-requires : tie.Need-write-all-requires
+write-all-requires : tie.Need-write_all-requires
 write-all-requires c κs = search rules
 
 returns : tie.Need-returns

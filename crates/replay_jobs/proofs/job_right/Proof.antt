@@ -8,35 +8,35 @@ use Rattle.replay_jobs.proofs.job_right.Tie as tie
 number32-requires : tie.Need-number32-requires
 number32-requires c κs = search rules
 
-further-requires : tie.Need-further-requires
+further-requires : tie.Need-further-end-requires
 further-requires c κs = search rules
 
-returns : tie.Need-returns
+returns : tie.Need-returns-then-end-lt4
 returns c = search rules
 
-part-run-job-start : tie.Need-slice-bounds-run-job-start
+part-run-job-start : tie.Need-slice_bounds-run_job-start
 part-run-job-start c = search rules
 
-part-run-job-end : tie.Need-slice-bounds-run-job-end
+part-run-job-end : tie.Need-slice_bounds-run_job-end
 part-run-job-end c = search rules
 
-run-job-requires : tie.Need-run-job-requires
+run-job-requires : tie.Need-run_job-length-requires
 run-job-requires c κs = search rules
 
-array-share-prefix-text : tie.Need-array-share-prefix-text
+array-share-prefix-text : tie.Need-slice_bounds-text-end
 array-share-prefix-text c = search rules
 
-slice-aggregate-text-right : tie.Need-slice-aggregate-text-right
-slice-aggregate-text-right c = sym (length-take-le _ c.before.run-job.new.1.0 c.before.run-job.ensures.within)
+slice-aggregate-text-right : tie.Need-slice_bounds-text_right-end
+slice-aggregate-text-right c = sym (length-take-le _ c.run_job-length.new.text c.run_job-length.ensures.within)
 
-text-right-requires : tie.Need-text-right-requires
+text-right-requires : tie.Need-text_right-requires
 text-right-requires c κs = search rules
 
-returns-2 : tie.Need-returns-2
+returns-2 : tie.Need-returns
 returns-2 c = search rules
 
-pub job-right-spec : {M : Type 1} → statement M
-job-right-spec =
+pub job_right_spec : {M : Type 1} → statement M
+job_right_spec =
     tie.close
     (tie.spec
     number32-requires

@@ -11,22 +11,22 @@ invariant-loop buffer₀ tally₀ counter₀ buffer tally counter = Unit {0}
 abbrev decreases-loop : tie.decreases-loop
 decreases-loop buffer₀ tally₀ counter₀ buffer tally counter = 1000001 - counter
 
-large-buffer-requires : tie.Need-large-buffer-requires invariant-loop decreases-loop
+large-buffer-requires : tie.Need-large_buffer-space-requires invariant-loop decreases-loop
 large-buffer-requires c κs = search rules
 
-slice-aggregate-buffer : tie.Need-slice-aggregate-buffer invariant-loop decreases-loop
+slice-aggregate-buffer : tie.Need-slice_bounds-buffer-end invariant-loop decreases-loop
 slice-aggregate-buffer c = search rules
 
-new-requires : tie.Need-new-requires invariant-loop decreases-loop
+new-requires : tie.Need-new-tally-requires invariant-loop decreases-loop
 new-requires c κs = search rules
 
 loop-holds : tie.Need-loop-init invariant-loop decreases-loop
 loop-holds c = search rules
 
-step-requires : tie.Need-step-requires invariant-loop decreases-loop
+step-requires : tie.Need-step-tally-requires invariant-loop decreases-loop
 step-requires c κs = search rules
 
-add-counter : tie.Need-overflow-add-counter invariant-loop decreases-loop
+add-counter : tie.Need-overflow_step invariant-loop decreases-loop
 add-counter c = search rules
 
 loop-less : tie.Need-loop-smaller invariant-loop decreases-loop
