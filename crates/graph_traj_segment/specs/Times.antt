@@ -8,10 +8,10 @@ use Rattle.arithmetic.specs.Arithmetic.{ieee}
 open ieee binary64 use {◌+◌, ◌-◌, ◌*◌}
 
 infixl 60 ◌+◌ ◌-◌
-infixl 70 ◌*◌ ◌/◌
+infixl 70 ◌*◌ ◌÷◌
 -- a quotient, rounded
-abbrev pub ◌/◌ : Float → Float → Float
-◌/◌ = Ieee.div binary64
+abbrev pub ◌÷◌ : Float → Float → Float
+◌÷◌ = Ieee.div binary64
 
 -- a count as a real; the counts of a run are small enough that none is rounded
 abbrev pub real : ℕ → Float
@@ -26,7 +26,7 @@ c2 = of_bits binary64 0x3FE9_3CD3_A2C8_198E
 
 -- τ of a segment: (end - start)/steps
 unfoldable pub segment_tau : Float → Float → ℕ → Float
-segment_tau start end steps = (end - start) / real steps
+segment_tau start end steps = (end - start) ÷ real steps
 
 -- step j of a segment starts at start + j·τ
 unfoldable pub step_start : Float → Float → ℕ → Float
@@ -42,4 +42,4 @@ sample_time t c τ = t + c * τ
 
 -- how far t is on its way from a to b: (t - a)/(b - a), carried past both ends
 unfoldable pub fraction : Float → Float → Float → Float
-fraction t a b = (t - a) / (b - a)
+fraction t a b = (t - a) ÷ (b - a)
