@@ -87,15 +87,14 @@ module _ (run : Run) where
             plain = last-plain held;
           }
 
-      -- the signal was loaded into the work slice, steps were taken, and the run was finished
+      -- the signal was loaded into the work slice, and steps were taken
       module _ (some : eqb (length run.steps) 0 ≡ false) (room : run.need ≤ length run.work)
-          {taken answer : Checked} {loaded stepped cleared output : List Float}
+          {answer : Checked} (loaded taken cleared : List Float)
           (load : loaded ≡ put 0 run.signal run.work)
-          (step : StepsTaken run.stepping.fault run.stepping.image n run.need run.steps taken loaded stepped)
-          (finish : (answer ≡ taken) × (output ≡ if_accepted taken (part 0 (length run.output) stepped) run.output)
-          × (cleared ≡ put 0 (zeros run.need) stepped)) where
-        is : taken ≡ run_answer run
-        is = accepted-then taken check run.checks _ made accepted step.answer-is
+          (step : StepsTaken run.stepping.fault run.stepping.image n run.need run.steps answer loaded taken)
+          (clear : cleared ≡ put 0 (zeros run.need) taken) where
+        is : answer ≡ run_answer run
+        is = accepted-then answer check run.checks _ made accepted step.answer-is
 
         -- only the needed part was written
         clean : cleared ≡ put 0 (zeros run.need) run.work
@@ -103,9 +102,47 @@ module _ (run : Run) where
             let before : length loaded ≡ length run.work = rw load (length-put 0 run.signal run.work) in
             let after : drop run.need loaded ≡ drop run.need run.work =
             rw load (drop-of-put 0 run.signal run.work run.need (omega (arith, lengths.of-signal, lengths.within))) in
-            finish.2
-            ∙ put-first-same run.need (zeros run.need) run.work stepped (length-tabulate _ _) room
+            clear
+            ∙ put-first-same run.need (zeros run.need) run.work taken (length-tabulate _ _) room
             (step.length-kept ∙ before) (step.rest run.need (omega arith) ∙ after)
+
+        -- a step refused
+        pub run-stopped : {r : Refusal} → answer ≡ Refused r → Ran run answer run.output cleared
+        run-stopped p = record {
+          answers = answers is;
+          output-is = left-unchanged _ _ (answers is) p;
+          work-is = left-written _ _ (answers made) accepted (rw some clean);
+          plain = λ a. absurd (refused-not-accepted is p a);
+        }
+
+        -- none did, and what is held was stored
+        pub run-done : {output : List Float}
+            → answer ≡ Accepted
+            → output ≡ part 0 (length run.output) taken
+            → Ran run Accepted output cleared
+        run-done {output} p stored =
+            let signal : part 0 n loaded ≡ run.signal =
+            rw load (part-of-put 0 n run.signal run.work lengths.of-signal (omega (arith, room, lengths.within))) in
+            let held : output ≡ last =
+            stored ∙ ap (λ (k : ℕ). part 0 k taken) lengths.of_output ∙ step.held p
+            ∙ ap (run_along run.stepping.image run.steps) signal in
+            let answered : Accepted ≡ run_answer run = sym p ∙ is in
+            record {
+              answers = answers answered;
+              output-is = left-written _ _ (answers answered) refl held;
+              work-is = left-written _ _ (answers made) accepted (rw some clean);
+              plain = last-plain held;
+            }
+
+      -- the same, and then the run was finished
+      module _ (some : eqb (length run.steps) 0 ≡ false) (room : run.need ≤ length run.work)
+          {taken answer : Checked} {loaded stepped cleared output : List Float}
+          (load : loaded ≡ put 0 run.signal run.work)
+          (step : StepsTaken run.stepping.fault run.stepping.image n run.need run.steps taken loaded stepped)
+          (finish : (answer ≡ taken) × (output ≡ if_accepted taken (part 0 (length run.output) stepped) run.output)
+          × (cleared ≡ put 0 (zeros run.need) stepped)) where
+        taken-is : taken ≡ run_answer run
+        taken-is = is some room loaded stepped cleared load step finish.2
 
         -- what is held after the last step, where none refused
         held : taken ≡ Accepted → part 0 (length run.output) stepped ≡ last
@@ -120,8 +157,8 @@ module _ (run : Run) where
 
         pub run-finished : Ran run answer output cleared
         run-finished = record {
-          answers = answers (finish.0 ∙ is);
-          output-is = written ∙ ap (λ (c : Checked). if_accepted c last run.output) is;
-          work-is = left-written _ _ (answers made) accepted (rw some clean);
-          plain = λ a. last-plain (written ∙ left-when-accepted taken last run.output (is ∙ a)) a;
+          answers = answers (finish.0 ∙ taken-is);
+          output-is = written ∙ ap (λ (c : Checked). if_accepted c last run.output) taken-is;
+          work-is = left-written _ _ (answers made) accepted (rw some (clean some room loaded stepped cleared load step finish.2));
+          plain = λ a. last-plain (written ∙ left-when-accepted taken last run.output (taken-is ∙ a)) a;
         }
