@@ -1,4 +1,5 @@
--- `check_laws` meets its contract. The loop's invariant: no law before place k is above 2. Assumes nothing.
+-- `check_laws` meets its contract. The loop's invariant: no law before place k is above 2. The test of a law is not
+-- named, so that another one fails at what has to be shown. Assumes nothing.
 use Prim.Native.Nat.{◌-◌}
 use native.Mathlib.Omega.{arith}
 use lib.ListN.{length}
@@ -23,11 +24,6 @@ shared-slice-read-law c = omega arith
 cast-law : tie.Need-overflow_cast-law invariant-loop-k decreases-loop-k
 cast-law c = omega (arith, c.shared_slice_known-1.given c.loop-k.k)
 
-returns : tie.Need-returns-then-law-gt2 invariant-loop-k decreases-loop-k
-unfolding laws_fault
-returns c =
-    refuses-first _ _ _ _ c.loop-k-test.true (passed-found c.loop-k.invariant (lt-ltb _ _ c.if-law-gt2.true))
-
 add-k : tie.Need-overflow_step-k invariant-loop-k decreases-loop-k
 add-k c = omega arith
 
@@ -36,7 +32,7 @@ loop-less c = omega arith
 
 loop-again : tie.Need-loop-k-preserved invariant-loop-k decreases-loop-k
 loop-again c =
-    passed-more c.loop-k.invariant c.loop-k-test.true (le-ltb _ _ c.if-law-gt2.false)
+    passed-more c.loop-k.invariant c.loop-k-test.true (le-ltb _ _ (omega arith))
 
 returns-2 : tie.Need-returns invariant-loop-k decreases-loop-k
 unfolding laws_fault
@@ -45,6 +41,7 @@ returns-2 c =
     accepts-none _ _ _ (λ j m. l.invariant.none j (omega arith))
 
 pub check_laws_spec : {M : Type 1} → statement M
+unfolding laws_fault
 check_laws_spec =
     tie.close
     (tie.spec
@@ -53,7 +50,7 @@ check_laws_spec =
     loop-holds
     shared-slice-read-law
     cast-law
-    returns
+    (λ c. refuses-first _ _ _ _ c.loop-k-test.true (passed-found c.loop-k.invariant (lt-ltb _ _ (omega arith))))
     add-k
     loop-less
     loop-again

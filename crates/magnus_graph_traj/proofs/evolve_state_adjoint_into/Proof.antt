@@ -1,6 +1,7 @@
 -- `evolve_state_adjoint_into` meets its contract: it makes the checks of `adjoint_run_fault`; where they accept and there are steps, the
 -- signal is loaded into the work slice, the steps are taken there, what is held after the last is stored, and the needed part of the
--- work slice is cleared. With no steps the signal is copied. Demand 3 follows from the definitions. Assumes nothing.
+-- work slice is cleared. With no steps the signal is copied. Demand 3 follows from the definitions. Whether
+-- there are steps is asked by value, so that another test of it fails at what has to be shown. Assumes nothing.
 use mathlib.Core.Path.{◌≡◌, sym, ap, ◌∙◌, subst}
 use Prim.Native.Nat.{ℕ, ◌<◌}
 use lib.Dec.{T}
@@ -31,16 +32,6 @@ lent c =
       work = a.work.now;
     }
 
--- how many steps there are, where the code takes none and where it takes some
-abbrev steps : tie.In-Accepted → ℕ
-steps c = c.args.steps
-
-no_steps : (c : tie.Then-steps-eq0) → steps c.before ≡ 0
-no_steps c = c.if-steps-eq0.true
-
-some-steps : (c : tie.Else-steps-eq0) → 0 < steps c.before
-some-steps c = omega (arith, c.if-steps-eq0.false)
-
 check-adjoint-run-requires : tie.Need-check_adjoint_run-checked-requires
 check-adjoint-run-requires c κs = search rules
 
@@ -60,24 +51,6 @@ store-requires c κs =
     let start = c.before.before.before.before.before.before.before.before.before.before.before.before.before in
     let ok = adjoint-accepted c.args.tau (lent start) c.check_adjoint_run-checked.ensures c.in-Accepted.is in
     omega (arith, ok.signals.signal-length, ok.signals.output-length)
-
-same_length : tie.Need-shape_of-dst-then-steps-eq0
-same_length c = search rules
-
-returns-2 : tie.Need-returns-then-steps-eq0
-returns-2 c =
-    let none = c.before.before.before.before in
-    let zero = no_steps none in
-    let start = c.before.before.before.before.before.before.before.before.before.before.before.before.before.before.before.before in
-    let check = c.check_adjoint_run-checked.ensures in
-    let yes = c.in-Accepted.is in
-    let plain = adjoint-plain c.args.tau (lent start) c.shared_slice_known-4-1.given c.shared_slice_known-5-1.given
-    (subst T (sym c.well_formed.1.1.1.1.1.1.1.1.0.1) tt) in
-    let lengths = adjoint-lengths c.args.tau (lent start) check yes in
-    run-copied (adjoint_of c.args.tau (lent start)) check yes lengths plain (adjoint-none c.args.steps zero)
-    (c.store.ensures
-    ∙ ap (λ (n : ℕ). part 0 n c.args.src.now) (lengths.of_output ∙ sym lengths.of-signal)
-    ∙ part-whole c.args.src.now)
 
 mul-need : tie.Need-overflow_mul-need
 mul-need c =
@@ -99,24 +72,21 @@ add-need c =
 
 load-requires : tie.Need-load-requires
 load-requires c κs =
-    let left = c.before in
-    let some = some-steps left in
+    let some : 0 < c.args.steps = omega arith in
     let start = c.before.before.before.before.before.before.before.before.before.before.before.before.before in
     let ok = adjoint-accepted c.args.tau (lent start) c.check_adjoint_run-checked.ensures c.in-Accepted.is in
     omega (arith, ok.signals.signal-length, ok.room some)
 
 run-adjoint-steps-requires : tie.Need-run_adjoint_steps-taken-requires
 run-adjoint-steps-requires c κs =
-    let left = c.before.before.before.before.before in
-    let some = some-steps left in
+    let some : 0 < c.args.steps = omega arith in
     let start = c.before.before.before.before.before.before.before.before.before.before.before.before.before.before.before.before.before in
     let ok = adjoint-accepted c.args.tau (lent start) c.check_adjoint_run-checked.ensures c.in-Accepted.is in
     (ok.along.accepted, ((ok.stepping some).few-steps, omega (arith, ok.room some, c.load.auto.work)))
 
 finish-run-requires : tie.Need-finish_run-requires
 finish-run-requires c κs =
-    let left = c.before.before.before.before.before.before.before.before.before.before in
-    let some = some-steps left in
+    let some : 0 < c.args.steps = omega arith in
     let start = c.before.before.before.before.before.before.before.before.before.before.before.before.before.before.before.before.before.before.before.before.before.before in
     let ok = adjoint-accepted c.args.tau (lent start) c.check_adjoint_run-checked.ensures c.in-Accepted.is in (
       omega (arith, ok.room some, c.load.auto.work, c.run_adjoint_steps-taken.ensures.length-kept),
@@ -131,8 +101,7 @@ same-length-3 c = search rules
 
 returns-3 : tie.Need-returns
 returns-3 c =
-    let left = c.before.before.before.before.before.before.before.before.before.before.before.before.before.before.before in
-    let some = some-steps left in
+    let some : 0 < c.args.steps = omega arith in
     let start = c.before.before.before.before.before.before.before.before.before.before.before.before.before.before.before.before.before.before.before.before.before.before.before.before.before.before.before in
     let check = c.check_adjoint_run-checked.ensures in
     let yes = c.in-Accepted.is in
@@ -152,8 +121,19 @@ evolve_state_adjoint_into_spec =
     enum-told-2
     returns
     store-requires
-    same_length
-    returns-2
+    (λ c. search rules)
+    (λ c.
+    let zero : c.args.steps ≡ 0 = omega arith in
+    let start = c.before.before.before.before.before.before.before.before.before.before.before.before.before.before.before.before in
+    let check = c.check_adjoint_run-checked.ensures in
+    let yes = c.in-Accepted.is in
+    let plain = adjoint-plain c.args.tau (lent start) c.shared_slice_known-4-1.given c.shared_slice_known-5-1.given
+    (subst T (sym c.well_formed.1.1.1.1.1.1.1.1.0.1) tt) in
+    let lengths = adjoint-lengths c.args.tau (lent start) check yes in
+    run-copied (adjoint_of c.args.tau (lent start)) check yes lengths plain (adjoint-none c.args.steps zero)
+    (c.store.ensures
+    ∙ ap (λ (n : ℕ). part 0 n c.args.src.now) (lengths.of_output ∙ sym lengths.of-signal)
+    ∙ part-whole c.args.src.now))
     mul-need
     mul-need-2
     add-need

@@ -1,6 +1,7 @@
 -- `evolve_state_adjoint_into` meets its contract: it makes the checks of `weighted_adjoint_run_fault`; where they accept and there are steps,
 -- the signal is loaded into the work slice, the steps are taken there, what is held after the last is stored, and the needed part of the
--- work slice is cleared. With no steps the signal is copied. Demand 3 follows from the definitions. Assumes nothing.
+-- work slice is cleared. With no steps the signal is copied. Demand 3 follows from the definitions. Whether
+-- there are steps is asked by value, so that another test of it fails at what has to be shown. Assumes nothing.
 use mathlib.Core.Path.{◌≡◌, sym, ap, ◌∙◌, subst}
 use Prim.Native.Nat.{ℕ, ◌<◌}
 use native.Mathlib.Omega.{arith}
@@ -49,16 +50,6 @@ run-lengths : (start : tie.Start)
 run-lengths start ok =
     record { of-signal = ok.signals.signal-length; of_output = ok.signals.output-length; within = omega arith }
 
--- how many steps there are, where the code takes none and where it takes some
-abbrev steps : tie.In-Accepted → ℕ
-steps c = c.args.steps
-
-no_steps : (c : tie.Then-steps-eq0) → steps c.before ≡ 0
-no_steps c = c.if-steps-eq0.true
-
-some-steps : (c : tie.Else-steps-eq0) → 0 < steps c.before
-some-steps c = omega (arith, c.if-steps-eq0.false)
-
 check-weighted-adjoint-run-requires : tie.Need-check_weighted_adjoint_run-checked-requires
 check-weighted-adjoint-run-requires c κs = search rules
 
@@ -78,25 +69,6 @@ store-requires c κs =
     let start = c.before.before.before.before.before.before.before.before.before.before.before.before.before.before.before in
     let ok = accepted-run start c.check_weighted_adjoint_run-checked.ensures c.in-Accepted.is in
     omega (arith, ok.signals.signal-length, ok.signals.output-length)
-
-same_length : tie.Need-shape_of-dst-then-steps-eq0
-same_length c = search rules
-
-returns-2 : tie.Need-returns-then-steps-eq0
-returns-2 c =
-    let none = c.before.before.before.before in
-    let zero = no_steps none in
-    let start = c.before.before.before.before.before.before.before.before.before.before.before.before.before.before.before.before.before.before in
-    let args = c.args in
-    let t = along start in
-    let ok = accepted-run start c.check_weighted_adjoint_run-checked.ensures c.in-Accepted.is in
-    run-copied (lent start) c.check_weighted_adjoint_run-checked.ensures c.in-Accepted.is (run-lengths start ok)
-    (steps-plain t args.a_starts.now args.a_ends.now (adjoint_course args.tau args.steps) adjoint c.shared_slice_known-4-1.given
-    c.shared_slice_known-5-1.given c.shared_slice_known-7-1.given c.shared_slice_known-8-1.given
-    (λ s. subst T (sym c.well_formed.1.1.1.1.1.1.1.1.0.1) tt)) (adjoint-none args.steps zero)
-    (c.store.ensures
-    ∙ ap (λ (n : ℕ). part 0 n args.src.now) (ok.signals.output-length ∙ sym ok.signals.signal-length)
-    ∙ part-whole args.src.now)
 
 mul-need : tie.Need-overflow_mul-need
 mul-need c =
@@ -118,24 +90,21 @@ add-need c =
 
 load-requires : tie.Need-load-requires
 load-requires c κs =
-    let left = c.before in
-    let some = some-steps left in
+    let some : 0 < c.args.steps = omega arith in
     let start = c.before.before.before.before.before.before.before.before.before.before.before.before.before.before.before in
     let ok = accepted-run start c.check_weighted_adjoint_run-checked.ensures c.in-Accepted.is in
     omega (arith, ok.signals.signal-length, ok.room some)
 
 run-steps-requires : tie.Need-run_steps-taken-requires
 run-steps-requires c κs =
-    let left = c.before.before.before.before.before in
-    let some = some-steps left in
+    let some : 0 < c.args.steps = omega arith in
     let start = c.before.before.before.before.before.before.before.before.before.before.before.before.before.before.before.before.before.before.before in
     let ok = accepted-run start c.check_weighted_adjoint_run-checked.ensures c.in-Accepted.is in
     (ok.along, (ok.weights some, (some, (ok.stepping some).few-steps, omega (arith, ok.room some, c.load.auto.work))))
 
 finish-run-requires : tie.Need-finish_run-requires
 finish-run-requires c κs =
-    let left = c.before.before.before.before.before.before.before.before.before.before in
-    let some = some-steps left in
+    let some : 0 < c.args.steps = omega arith in
     let start = c.before.before.before.before.before.before.before.before.before.before.before.before.before.before.before.before.before.before.before.before.before.before.before.before in
     let ok = accepted-run start c.check_weighted_adjoint_run-checked.ensures c.in-Accepted.is in (
       omega (arith, ok.room some, c.load.auto.work, c.run_steps-taken.ensures.length-kept),
@@ -150,8 +119,7 @@ same-length-3 c = search rules
 
 returns-3 : tie.Need-returns
 returns-3 c =
-    let left = c.before.before.before.before.before.before.before.before.before.before.before.before.before.before.before in
-    let some = some-steps left in
+    let some : 0 < c.args.steps = omega arith in
     let start = c.before.before.before.before.before.before.before.before.before.before.before.before.before.before.before.before.before.before.before.before.before.before.before.before.before.before.before.before.before in
     let args = c.args in
     let t = along start in
@@ -171,8 +139,20 @@ evolve_state_adjoint_into_spec =
     enum-told-2
     returns
     store-requires
-    same_length
-    returns-2
+    (λ c. search rules)
+    (λ c.
+    let zero : c.args.steps ≡ 0 = omega arith in
+    let start = c.before.before.before.before.before.before.before.before.before.before.before.before.before.before.before.before.before.before in
+    let args = c.args in
+    let t = along start in
+    let ok = accepted-run start c.check_weighted_adjoint_run-checked.ensures c.in-Accepted.is in
+    run-copied (lent start) c.check_weighted_adjoint_run-checked.ensures c.in-Accepted.is (run-lengths start ok)
+    (steps-plain t args.a_starts.now args.a_ends.now (adjoint_course args.tau args.steps) adjoint c.shared_slice_known-4-1.given
+    c.shared_slice_known-5-1.given c.shared_slice_known-7-1.given c.shared_slice_known-8-1.given
+    (λ s. subst T (sym c.well_formed.1.1.1.1.1.1.1.1.0.1) tt)) (adjoint-none args.steps zero)
+    (c.store.ensures
+    ∙ ap (λ (n : ℕ). part 0 n args.src.now) (ok.signals.output-length ∙ sym ok.signals.signal-length)
+    ∙ part-whole args.src.now))
     mul-need
     mul-need-2
     add-need

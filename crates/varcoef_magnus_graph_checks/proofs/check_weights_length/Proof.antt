@@ -1,5 +1,5 @@
 -- `varcoef_magnus_graph_checks::check_weights_length` meets its contract: it makes the test of `weights_length_fault`, and where that
--- refuses, names the larger length. Assumes nothing.
+-- refuses, names the larger length. The test of which that is is not named, so that another one fails at what has to be shown. Assumes nothing.
 use mathlib.Core.Path.{◌≡◌, sym, ap, ◌∙◌}
 use mathlib.Core.Bool.{Bool, true, not}
 use Prim.Native.Nat.{ℕ}
@@ -21,13 +21,11 @@ returns : tie.Need-returns-then-first-n
 unfolding weights_length_fault
 returns c = accepts _ _ (ap not c.if-first-n.true)
 
-returns-2 : tie.Need-returns-then-first-second
-unfolding weights_length_fault
-returns-2 c = named _ _ _ (max-eq_right (omega arith)) (ap not c.if-first-n.false)
-
-returns-3 : tie.Need-returns-else-first-second
-unfolding weights_length_fault
-returns-3 c = named _ _ _ (max-eq_left (omega arith)) (ap not c.if-first-n.false)
-
 pub check_weights_length_spec : {M : Type 1} → statement M
-check_weights_length_spec = tie.close (tie.spec returns returns-2 returns-3)
+unfolding weights_length_fault
+check_weights_length_spec =
+    tie.close
+    (tie.spec
+    returns
+    (λ c. named _ _ _ (max-eq_right (omega arith)) (ap not c.if-first-n.false))
+    (λ c. named _ _ _ (max-eq_left (omega arith)) (ap not c.if-first-n.false)))

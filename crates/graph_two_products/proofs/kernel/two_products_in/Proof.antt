@@ -1,5 +1,6 @@
 -- `two_products_in` meets its contract: where the patterns are the same, the second sample's values belong to the first one's pattern; else one
--- product is written after the other, apart from the source. Assumes nothing.
+-- product is written after the other, apart from the source. That the patterns are the
+-- same is asked by value, so that another test fails at what has to be shown. Assumes nothing.
 use mathlib.Core.Path.{sym, ap, ◌∙◌}
 use native.Mathlib.Omega.{arith}
 use lib.ListN.{length}
@@ -14,7 +15,7 @@ use Rattle.graph_two_products.proofs.kernel.two_products_in.Tie as tie
 shared-products-in-requires : tie.Need-shared_products_in-requires
 shared-products-in-requires c κs =
     let pre = c.requires in
-    let same = pre.1.1.0.same c.if-shared.true in
+    let same = pre.1.1.0.same cc in
     (pre.0, (pre.1.0.count ∙ sym (ap length same.1), pre.1.1.1))
 
 product-in-requires : tie.Need-product_in-requires

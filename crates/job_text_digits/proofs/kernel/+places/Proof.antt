@@ -41,14 +41,6 @@ places-add-result :
 places-add-result t c =
     omega (arith, count_fits _ _ c.ranges.n.fits c.places.ensures)
 
-places-returns :
-    (t : ℕ) → places-lts.Need-returns-then-n-lt10 (places-below t, places.Post) (places-at t) places.Post
-places-returns t c = sym (places-one _ c.if-n-lt10.true)
-
-places-returns-2 :
-    (t : ℕ) → places-lts.Need-returns-else-n-lt10 (places-below t, places.Post) (places-at t) places.Post
-places-returns-2 t c = ap (λ (k : ℕ). k + 1) c.places.ensures ∙ sym (places-more _ c.if-n-lt10.false)
-
 pub +places_spec : {M : Type 1} → statement M
 +places_spec =
     close
@@ -59,5 +51,5 @@ pub +places_spec : {M : Type 1} → statement M
     places.Post
     (places-places-requires t)
     (places-add-result t)
-    (places-returns t)
-    (places-returns-2 t)
+    (λ c. sym (places-one _ (omega arith)))
+    (λ c. ap (λ (k : ℕ). k + 1) c.places.ensures ∙ sym (places-more _ (omega arith)))
