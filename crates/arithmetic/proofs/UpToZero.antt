@@ -6,7 +6,6 @@ use Prim.Native.Nat.{ℕ, zero, suc, ◌+◌, ◌-◌, ◌<◌}
 use native.Mathlib.Decide.{dec_lt}
 use native.Mathlib.Omega.{arith}
 use lib.ListN.{length, get_or, get_or-eq_default}
-use lib.Ieee
 use lib.Ieee.{Float, Format, nan}
 use Rattle.rounding.specs.SignOfZero.{Same}
 use Rattle.rounding.proofs.Same.{same_refl, same-sym, same-trans, same-equal, neg_same, add_same, sub_same, mul-same}

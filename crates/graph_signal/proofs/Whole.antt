@@ -4,9 +4,7 @@ use mathlib.Core.List.{List}
 use Prim.Native.Nat.{ℕ, ◌+◌, ◌≤◌}
 use native.Mathlib.Omega.{arith}
 use lib.ListN.{length}
-use lib.Ieee.{Float, binary64}
-use Rattle.arithmetic.specs.Arithmetic.{ieee}
-use Rattle.arithmetic.specs.Product.{plus_scaled}
+use lib.Ieee.{Float}
 use Rattle.scratch.specs.Parts.{part}
 use Rattle.scratch.proofs.Parts.{part-whole}
 use Rattle.error.specs.Refusals.{Answers}

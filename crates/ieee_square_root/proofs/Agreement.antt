@@ -1,9 +1,9 @@
 -- The digits that the code finds are those of the definition, for any format. Assumes nothing.
 -- Where num / den is n * 4 ^ k in units of the square of the format's smallest value, and n has twice the format's digits, `round_root`
 -- drops k digits and rounds the root of n to the r with (r - 1) * r < n ≤ r * (r + 1).
-use mathlib.Core.Path.{◌≡◌, refl, sym, ap, ◌∙◌, subst}
+use mathlib.Core.Path.{◌≡◌, sym, ap, ◌∙◌, subst}
 use mathlib.Core.Bool.{Bool, true, false, cond}
-use Prim.Native.Nat.{ℕ, zero, suc, ◌+◌, ◌-◌, ◌*◌, ◌/◌, ◌%◌, ◌^◌, ◌≤◌, ◌<◌, zero-le, compare}
+use Prim.Native.Nat.{ℕ, zero, suc, ◌+◌, ◌-◌, ◌*◌, ◌/◌, ◌^◌, ◌≤◌, ◌<◌, zero-le, compare}
 use native.Mathlib.Nat.{le_trans, le_of_eq, le_of_lt, le_antisymm, lt_of_lt_of_le, lt_of_le_of_lt, lt_of_not-le, not-le_of_lt}
 use native.Mathlib.Nat.{lt_irrefl, zero-lt-suc, mul-pos, mul_assoc, mul_comm, mul_right_comm, mul-mul-mul_comm, mul-add, add-mul}
 use native.Mathlib.Nat.{mul-one, zero-mul, mul-le-mul, mul-le-mul_right, mul-lt-mul_of_pos_right, mul-div_cancel}

@@ -1,17 +1,17 @@
 -- Bit patterns of values above zero, for any format: what a pattern's fields say, and the pattern of digits and an exponent. Assumes nothing.
 use mathlib.Core.Path.{◌≡◌, refl, sym, ap, ◌∙◌, subst}
-use mathlib.Core.Bool.{Bool, true, false, not, cond}
+use mathlib.Core.Bool.{Bool, false, not, cond}
 use Prim.Native.Nat.{ℕ, zero, suc, ◌+◌, ◌-◌, ◌*◌, ◌/◌, ◌%◌, ◌^◌, ◌≤◌, ◌<◌}
-use native.Mathlib.Nat.{le_trans, le_of_eq, le_of_lt, le_refl, lt_of_lt_of_le, lt_of_le_of_lt, lt_irrefl, mul_assoc, mul_comm, mul-one, mul-pos, le-add_right, mul-le-mul_right, mul-lt-mul_of_pos_right, mod-eq_of_lt, mod-le, div-lt_iff_lt-mul, le-suc, suc-mul}
+use native.Mathlib.Nat.{le_trans, le_of_eq, le_of_lt, lt_of_lt_of_le, mul_comm, mul-one, mul-pos, le-add_right, mul-le-mul_right, mod-eq_of_lt, mod-le, div-lt_iff_lt-mul, le-suc, suc-mul}
 use native.Mathlib.Omega.{arith}
-use lib.Dec.{T, leb, ltb, eqb, leb→le}
-use lib.Pow.{pow-add, pow_pos, pow_mono, pow-lt, shl_lt, high, low as remainder}
-use lib.Ieee.{Float, nan, inf, fin, Format, binary32, binary64, prec, emax, low, hid, ones, top, odd, units, of_bits, of_fields, nan_bits, is_nan, fits}
-use lib.Ieee.Bits.{of_bits-fits, nan_bits_above, is_false, cond_no}
+use lib.Dec.{T, ltb, eqb}
+use lib.Pow.{pow-add, pow_pos, pow_mono, shl_lt, high, low as remainder}
+use lib.Ieee.{Float, nan, inf, Format, binary32, binary64, prec, emax, low, hid, ones, top, odd, units, of_bits, of_fields, nan_bits, fits}
+use lib.Ieee.Bits.{of_bits-fits, nan_bits_above}
 use lib.Ieee.Exact.{HasValue, odd_sign, units_val}
 use lib.Ieee.Fits.{two, two-le_pos, cond-fits, odd-fits, inf-fits}
 use lib.Ieee.Scale.{overflow}
-use borrow.Author.Tests.{lt-leb, lt-ltb, le-ltb, ne_eqb}
+use borrow.Author.Tests.{lt-leb, le-ltb, ne_eqb}
 use Rattle.rounding.proofs.Value.{unique}
 use Rattle.ieee_square_root.specs.Steps.{magnitude}
 

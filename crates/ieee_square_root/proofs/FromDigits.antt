@@ -1,13 +1,13 @@
 -- From the digits of a root to the root, at binary64: that the digits are all of the format's, and that their pattern is the root's.
 -- Assumes nothing.
-use mathlib.Core.Path.{◌≡◌, refl, sym, ap, ◌∙◌, subst}
-use mathlib.Core.Bool.{false, not}
-use Prim.Native.Nat.{ℕ, zero, suc, ◌+◌, ◌-◌, ◌*◌, ◌/◌, ◌%◌, ◌^◌, ◌≤◌, ◌<◌}
-use native.Mathlib.Nat.{le_trans, le_of_eq, le_of_lt, lt_of_lt_of_le, lt_of_le_of_lt, lt_of_not-le, not-le_of_lt, lt_irrefl, mul-le-mul, mul_assoc, mul-pos, zero-lt-suc, zero-mul}
+use mathlib.Core.Path.{◌≡◌, sym, ◌∙◌}
+use mathlib.Core.Bool.{not}
+use Prim.Native.Nat.{ℕ, ◌+◌, ◌-◌, ◌*◌, ◌/◌, ◌%◌, ◌^◌, ◌≤◌, ◌<◌}
+use native.Mathlib.Nat.{le_trans, le_of_lt, lt_of_lt_of_le, lt_of_le_of_lt, lt_of_not-le, lt_irrefl, mul-le-mul}
 use native.Mathlib.Omega.{arith}
-use lib.Dec.{T, lit≤, lit<}
+use lib.Dec.{T, lit<}
 use lib.IntN.{ℤ}
-use lib.Ieee.{Float, binary64, of_bits, nan_bits}
+use lib.Ieee.{binary64, of_bits, nan_bits}
 use Rattle.ieee_square_root.specs.SquareRoot.{square_root}
 use Rattle.ieee_square_root.specs.Steps.{RootDigits, Scaled, magnitude}
 use Rattle.ieee_square_root.proofs.Agreement.{square_root-by-digits}

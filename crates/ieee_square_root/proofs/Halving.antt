@@ -1,14 +1,14 @@
 -- Half of a value's exponent: that it fits its type, its place, and what is left for the digits. Assumes nothing.
-use mathlib.Core.Path.{◌≡◌, refl, sym, ap, ◌∙◌, subst}
-use mathlib.Core.Bool.{Bool, true, false, not, cond}
+use mathlib.Core.Path.{◌≡◌, sym, ap, ◌∙◌, subst}
+use mathlib.Core.Bool.{Bool, true, false, not}
 use Prim.Native.Nat.{ℕ, zero, suc, ◌+◌, ◌-◌, ◌*◌, ◌/◌, ◌%◌, ◌^◌, ◌≤◌, ◌<◌}
-use native.Mathlib.Nat.{le_trans, le_of_eq, lt_of_le_of_lt, lt_of_lt_of_le, mul_assoc, mul_comm, mul_left_comm, mul_right_comm}
+use native.Mathlib.Nat.{lt_of_lt_of_le, mul_assoc, mul_comm, mul_left_comm}
 use native.Mathlib.Omega.{arith}
-use lib.Dec.{T, leb, ltb, leb→le, le→leb, nleb→lt, lit≤}
+use lib.Dec.{T, leb, leb→le, le→leb, nleb→lt, lit≤}
 use lib.Ieee.{binary64}
-use lib.IntN.{ℤ, pos, negsuc, neg_ℤ, nat_abs, pos-ne-negsuc, sub_ℕ, ◌+ℤ◌, ◌-ℤ◌}
-use lib.Pow.{pow_pos, pow-add}
-use lib.Signed.{le_z, mag}
+use lib.IntN.{ℤ, pos, negsuc, nat_abs, pos-ne-negsuc, sub_ℕ, ◌+ℤ◌, ◌-ℤ◌}
+use lib.Pow.{pow-add}
+use lib.Signed.{le_z}
 use mir.Syntax.{w64}
 use mir.Val.{SFits, of_z, to_z}
 use Rattle.ieee_square_root.specs.IntegerRoot.{four-pow}

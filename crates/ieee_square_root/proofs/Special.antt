@@ -1,19 +1,18 @@
 -- The square roots that no digits are worked out for, by bit patterns: of negative values, of zeros, of the infinity and of a NaN. Assumes nothing.
 use mathlib.Core.Path.{◌≡◌, refl, sym, ap, ◌∙◌, subst}
-use mathlib.Core.Bool.{Bool, true, false, not, cond}
+use mathlib.Core.Bool.{Bool, true, false, cond}
 use Prim.Native.Nat.{ℕ, zero, suc, ◌+◌, ◌-◌, ◌*◌, ◌/◌, ◌%◌, ◌^◌, ◌≤◌, ◌<◌}
-use native.Mathlib.Nat.{le_trans, le_of_eq, le_of_lt, le_antisymm, le_of_suc-le-suc, lt_of_lt_of_le, lt_irrefl, mul-pos, mul_comm, mod-eq_of_lt, mod-eq-sub-mod, mod-mod_of_dvd, dvd-mul_right, div-add-mod', div-lt_iff_lt-mul, le-div_iff_mul-le, zero-mul, zero-add}
+use native.Mathlib.Nat.{le_of_eq, le_of_lt, le_antisymm, le_of_suc-le-suc, lt_of_lt_of_le, lt_irrefl, mul-pos, mul_comm, mod-eq_of_lt, mod-eq-sub-mod, mod-mod_of_dvd, dvd-mul_right, div-add-mod', div-lt_iff_lt-mul, le-div_iff_mul-le, zero-mul, zero-add}
 use native.Mathlib.Omega.{arith}
-use lib.Dec.{T, leb, eqb}
+use lib.Dec.{eqb}
 use lib.Pow.{pow_pos}
-use lib.Ieee.{Float, nan, inf, fin, Format, binary64, prec, emax, low, up, down, hid, ones, top, odd, of_bits, of_fields, ne, neg}
+use lib.Ieee.{Float, nan, inf, fin, Format, binary64, prec, emax, low, up, hid, ones, top, odd, of_bits, of_fields, ne, neg}
 use lib.Ieee.Exact.{HasValue, odd_sign}
 use lib.Ieee.Fits.{down_pos}
-use borrow.Author.Tests.{le-leb, lt-leb, eq-eqb, ne_eqb}
+use borrow.Author.Tests.{le-leb, eq-eqb}
 use Rattle.rounding.proofs.Nan.{unequal-to-itself}
 use Rattle.ieee_square_root.specs.SquareRoot.{square_root}
 use Rattle.ieee_square_root.proofs.FromBits.{magnitude-positive, hid-pos, fields}
-use Rattle.ieee_square_root.specs.Steps.{magnitude}
 
 -- ---- a NaN
 

@@ -1,5 +1,5 @@
 -- IEEE 754's squareRoot, to nearest, ties to even, for any format (01, part 4). Definitions only.
-use Rattle.std.specs.Prelude.{Bool, true, false, ℤ, pos, negsuc, T, Float}
+use Rattle.std.specs.Prelude.{true, false, T, Float}
 use Prim.Native.Nat.{ℕ, zero, suc, ◌+◌, ◌-◌, ◌*◌, ◌/◌, ◌^◌, ◌<◌, compare}
 use Rattle.std.specs.Float.{nan, inf, fin, Format}
 use Rattle.std.specs.Float.Ieee.{prec, low, up, down, size, nearest, units, fits}

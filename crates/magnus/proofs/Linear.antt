@@ -2,7 +2,7 @@
 -- holds of those that the code computes: its formulas of order 4, unweighted and weighted, and of order 6 are the
 -- published ones.
 -- Assumes nothing.
-use mathlib.Core.Path.{◌≡◌, sym, ap, ap₂, ◌∙◌}
+use mathlib.Core.Path.{◌≡◌, sym, ap, ◌∙◌}
 use mathlib.Core.List.{List}
 use Prim.Native.Nat.{ℕ, ◌<◌, ◌+◌ as ◌+ℕ◌, ◌-◌ as ◌-ℕ◌}
 use native.Mathlib.Decide.{dec_le}

@@ -13,7 +13,7 @@ use Rattle.arithmetic.specs.Product.{plus_scaled}
 use Rattle.arithmetic.proofs.Tabulate.{length-tabulate, tabulate-same}
 use Rattle.arithmetic.proofs.Product.{at-tabulate, length-plus-scaled}
 use Rattle.scratch.specs.Parts.{part, put, Apart}
-use Rattle.scratch.proofs.Parts.{Wrote, wrote, length_part, put_whole, put-first-same}
+use Rattle.scratch.proofs.Parts.{Wrote, wrote, length_part, put-first-same}
 use Rattle.magnus.specs.Operators.{Operator, omega4, power, taylor}
 use Rattle.magnus_graph_helpers.specs.Terms.{omega4_sum, omega4-sum, TermAdded, TermsAdded}
 

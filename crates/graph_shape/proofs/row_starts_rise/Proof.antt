@@ -1,6 +1,6 @@
 -- `graph_shape::row_starts_rise` meets its contract. The loop's invariant: if the words joined so far are below 2^63, no start before row i
 -- exceeds the next. Assumes nothing.
-use Rattle.std.proofs.Common.{◌≡◌, ◌+◌, ◌-◌, ◌^◌, ◌<◌, ◌≤◌, length, get_or, arith, rules, ltb-true}
+use Rattle.std.proofs.Common.{◌+◌, ◌-◌, ◌^◌, ◌<◌, ◌≤◌, length, get_or, arith, rules, ltb-true}
 use Rattle.graph_shape.specs.ShapeChecks.{falls_at}
 use Rattle.graph_shape.proofs.First.{Passed, passed_none, passed-more}
 use Rattle.graph_shape.proofs.RowStarts.{joined-before, joined-rises}

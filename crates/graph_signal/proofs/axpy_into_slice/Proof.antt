@@ -1,5 +1,5 @@
 -- `axpy_into_slice` meets its contract: where the lengths are equal, the multiple of the whole of src is added. Assumes nothing.
-use mathlib.Core.Path.{◌≡◌, ap, ◌∙◌}
+use mathlib.Core.Path.{ap, ◌∙◌}
 use lib.ListN.{length}
 use lib.Ieee.{binary64}
 use Rattle.arithmetic.specs.Arithmetic.{ieee}

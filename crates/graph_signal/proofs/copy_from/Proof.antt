@@ -1,6 +1,5 @@
 -- `copy_from` meets its contract: where the lengths are equal, the whole of src is stored. Assumes nothing.
-use mathlib.Core.Path.{◌≡◌, ap, ◌∙◌}
-use lib.ListN.{length}
+use mathlib.Core.Path.{◌∙◌}
 use borrow.Author.Rules.{rules}
 use Rattle.error.proofs.Left.{answers-accepted, left-unchanged, left-written}
 use Rattle.graph_signal.proofs.Whole.{equal-lengths, within, whole}

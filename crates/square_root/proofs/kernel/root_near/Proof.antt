@@ -1,11 +1,10 @@
 -- `root_near` meets its contract, by x's bit pattern: a NaN, a zero and the infinity are their own roots, a negative value has none, and
 -- the digits of any other are found by `root_of_bits`. Assumes nothing.
 use mathlib.Core.Path.{◌≡◌, refl, sym, ap, ◌∙◌, subst}
-use mathlib.Core.Bool.{true, false, not}
-use Prim.Native.Nat.{ℕ, ◌+◌, ◌*◌, ◌<◌, ◌≤◌}
+use Prim.Native.Nat.{ℕ, ◌<◌, ◌≤◌}
 use native.Mathlib.Omega.{arith}
 use lib.Dec.{T}
-use lib.Ieee.{Float, nan, binary64, of_bits, to_bits, div, fits, is_nan}
+use lib.Ieee.{Float, nan, binary64, of_bits, to_bits, div, fits}
 use lib.Ieee.Bits.{of_bits-to_bits, to_bits-lt}
 use borrow.Author.Rules.{rules}
 use Rattle.rounding.proofs.Nan.{equal-to-itself}

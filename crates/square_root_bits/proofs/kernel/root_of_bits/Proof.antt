@@ -1,20 +1,19 @@
 -- `root_of_bits` meets its contract: the digits found are those of the definition, and their pattern stands for its value. Assumes nothing.
 use mathlib.Core.Path.{◌≡◌, sym, ap, ◌∙◌, subst}
 use mathlib.Core.Bool.{not}
-use Prim.Native.Nat.{ℕ, suc, ◌+◌, ◌-◌, ◌*◌, ◌/◌, ◌%◌, ◌^◌, ◌≤◌, ◌<◌}
-use native.Mathlib.Nat.{le_of_lt}
+use Prim.Native.Nat.{ℕ, ◌+◌, ◌*◌, ◌<◌}
 use native.Mathlib.Omega.{arith}
 use lib.Dec.{T, lit≤}
 use lib.IntN.{ℤ, pos, nat_abs, ◌+ℤ◌}
 use lib.Signed.{non_neg}
-use lib.Ieee.{Float, binary64, of_bits, nan_bits}
+use lib.Ieee.{binary64, of_bits, nan_bits}
 use mir.Syntax.{w64}
 use mir.Val.{SFits, Fits, of_z, to_z}
 use borrow.Author.Rules.{rules}
 use Rattle.ieee_square_root.specs.SquareRoot.{square_root}
 use Rattle.ieee_square_root.specs.Steps.{RootDigits, Scaled}
 use Rattle.ieee_square_root.proofs.Exponent.{small, read_back, offset-fits}
-use Rattle.ieee_square_root.proofs.FromDigits.{root_is, root-full, root_kept, pattern-small}
+use Rattle.ieee_square_root.proofs.FromDigits.{root_is, root_kept, pattern-small}
 use Rattle.square_root_bits.proofs.kernel.root_of_bits.Statement.{statement}
 use Rattle.square_root_bits.proofs.kernel.root_of_bits.Tie as tie
 

@@ -1,7 +1,7 @@
 -- `bisected` meets its contract. The invariant: the low end's product is below, the high end's is not, and the two stay apart.
 -- The interval halves, so the measure is its length. Assumes nothing.
-use mathlib.Core.Path.{◌≡◌, sym, ◌∙◌}
-use Prim.Native.Nat.{ℕ, ◌+◌, ◌-◌, ◌*◌, ◌/◌, ◌^◌, ◌≤◌, ◌<◌}
+use mathlib.Core.Path.{sym, ◌∙◌}
+use Prim.Native.Nat.{◌+◌, ◌-◌, ◌*◌, ◌^◌, ◌≤◌, ◌<◌}
 use native.Mathlib.Omega.{arith}
 use lib.Dec.{lit≤}
 use mir.Facts.{Fits-lit}
@@ -9,9 +9,6 @@ use borrow.Author.Tests.{ltb-true, ltb-false}
 use Rattle.ieee_square_root.proofs.Digits.{low_end, high_end, between}
 use Rattle.square_root_digits.proofs.kernel.bisected.Statement.{statement}
 use Rattle.square_root_digits.proofs.kernel.bisected.Tie as tie
-use Rattle.square_root_digits.proofs.kernel.bisected.Reads as reads
-use Rattle.square_root_digits.proofs.kernel.bisected.Lts as lts
-use Rattle.square_root_digits.proofs.kernel.exceeds.Reads as exceeds-reads
 
 abbrev invariant-loop-high : tie.invariant-loop-high
 invariant-loop-high radicand low₀ high₀ low high =

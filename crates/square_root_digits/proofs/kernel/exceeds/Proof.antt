@@ -1,13 +1,11 @@
 -- `exceeds` meets its contract: r is split at 2^26, the parts' products fit, and the whole part of r (r + 1) / 2^52 is below the radicand
 -- exactly where r (r + 1) is below the radicand times 2^52. Assumes nothing.
-use Prim.Native.Nat.{ℕ, ◌+◌, ◌*◌, ◌/◌, ◌%◌, ◌^◌, ◌≤◌, ◌<◌}
+use Prim.Native.Nat.{◌/◌, ◌%◌}
 use native.Mathlib.Omega.{arith}
 use borrow.Author.Rules.{rules}
 use Rattle.ieee_square_root.proofs.Digits.{high_part, low_part, low-square, cross_product, high-square, compared}
 use Rattle.square_root_digits.proofs.kernel.exceeds.Statement.{statement}
 use Rattle.square_root_digits.proofs.kernel.exceeds.Tie as tie
-use Rattle.square_root_digits.proofs.kernel.exceeds.Reads as reads
-use Rattle.square_root_digits.proofs.kernel.exceeds.Lts as lts
 
 -- src/kernel.rt:31:18
 mul-middle : tie.Need-overflow_mul-middle

@@ -1,13 +1,10 @@
 -- `is_root` meets its contract: what the two comparisons say is what makes r nearest. Assumes nothing.
-use mathlib.Core.Path.{◌≡◌, sym, ◌∙◌, subst}
+use mathlib.Core.Path.{sym, ◌∙◌, subst}
 use mathlib.Core.Bool.{Bool, cond}
 use borrow.Author.Rules.{rules}
 use Rattle.ieee_square_root.proofs.Digits.{decided}
 use Rattle.square_root_digits.proofs.kernel.is_root.Statement.{statement}
 use Rattle.square_root_digits.proofs.kernel.is_root.Tie as tie
-use Rattle.square_root_digits.proofs.kernel.is_root.Reads as reads
-use Rattle.square_root_digits.proofs.kernel.is_root.Lts as lts
-use Rattle.square_root_digits.proofs.kernel.exceeds.Reads as exceeds-reads
 
 -- src/kernel.rt:40:8
 exceeds-requires : tie.Need-exceeds-requires

@@ -2,10 +2,6 @@
 use borrow.Author.Rules.{rules}
 use Rattle.square_root_digits.proofs.kernel.settled.Statement.{statement}
 use Rattle.square_root_digits.proofs.kernel.settled.Tie as tie
-use Rattle.square_root_digits.proofs.kernel.settled.Reads as reads
-use Rattle.square_root_digits.proofs.kernel.settled.Lts as lts
-use Rattle.square_root_digits.proofs.kernel.bisected.Reads as bisected-reads
-use Rattle.square_root_digits.proofs.kernel.is_root.Reads as is-root-reads
 
 -- src/kernel.rt:70:8
 is-root-requires : tie.Need-is_root-requires
