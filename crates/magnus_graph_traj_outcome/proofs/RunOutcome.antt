@@ -16,7 +16,7 @@ use Rattle.error.specs.declared.Refusal.{Refusal}
 use Rattle.error.specs.declared.Checked.{Checked}
 use Rattle.error.specs.declared.Checked.TheVariants.{Accepted, Refused}
 use Rattle.error.specs.Checks.{if_accepted}
-use Rattle.error.proofs.Checks.{refused-here, accepted-then, left-when-accepted}
+use Rattle.error.proofs.Checks.{refused-here, accepted-then}
 use Rattle.error.proofs.Left.{answers, left-unchanged, left-written}
 use Rattle.magnus_plain_sum.specs.Run.{run_along}
 use Rattle.magnus_plain_sum.proofs.PlainRun.{plain-run}
@@ -39,12 +39,6 @@ pub record RunLengths (run : Run) (n : ℕ) : Type 0 where
   pub of-signal : length run.signal ≡ n
   pub of_output : length run.output ≡ n
   pub within : n ≤ run.need
-
--- what an accepted answer leaves behind matters only where the answer is accepted
-same-where-accepted : {A : Type 0} (c : Checked) {a a' : A} (b : A) → (c ≡ Accepted → a ≡ a') → if_accepted c a b ≡ if_accepted c a' b
-unfolding if_accepted
-same-where-accepted Accepted b same = same refl
-same-where-accepted (Refused r) b same = refl
 
 module _ (run : Run) where
   -- the signal that is held after the last step
@@ -141,24 +135,19 @@ module _ (run : Run) where
           (step : StepsTaken run.stepping.fault run.stepping.image n run.need run.steps taken loaded stepped)
           (finish : (answer ≡ taken) × (output ≡ if_accepted taken (part 0 (length run.output) stepped) run.output)
           × (cleared ≡ put 0 (zeros run.need) stepped)) where
-        taken-is : taken ≡ run_answer run
-        taken-is = is some room loaded stepped cleared load step finish.2
-
-        -- what is held after the last step, where none refused
-        held : taken ≡ Accepted → part 0 (length run.output) stepped ≡ last
-        held p =
-            let signal : part 0 n loaded ≡ run.signal =
-            rw load (part-of-put 0 n run.signal run.work lengths.of-signal (omega (arith, room, lengths.within))) in
-            ap (λ (k : ℕ). part 0 k stepped) lengths.of_output ∙ step.held p
-            ∙ ap (run_along run.stepping.image run.steps) signal
-
-        written : output ≡ if_accepted taken last run.output
-        written = finish.1 ∙ same-where-accepted taken run.output held
+        -- whether a step refused or none did, that is one of the two above
+        finished : (t : Checked) → taken ≡ t → Ran run answer output cleared
+        unfolding if_accepted
+        finished Accepted p =
+            subst (λ (a : Checked). Ran run a output cleared) (sym (finish.0 ∙ p))
+            (run-done some room loaded stepped cleared load step finish.2 p
+            (finish.1 ∙ ap (λ (c : Checked). if_accepted c (part 0 (length run.output) stepped) run.output) p))
+        finished (Refused r) p =
+            let kept : output ≡ run.output =
+            finish.1 ∙ ap (λ (c : Checked). if_accepted c (part 0 (length run.output) stepped) run.output) p in
+            subst (λ (a : Checked). Ran run a output cleared) (sym finish.0)
+            (subst (λ (out : List Float). Ran run taken out cleared) (sym kept)
+            (run-stopped some room loaded stepped cleared load step finish.2 p))
 
         pub run-finished : Ran run answer output cleared
-        run-finished = record {
-          answers = answers (finish.0 ∙ taken-is);
-          output-is = written ∙ ap (λ (c : Checked). if_accepted c last run.output) taken-is;
-          work-is = left-written _ _ (answers made) accepted (rw some (clean some room loaded stepped cleared load step finish.2));
-          plain = λ a. last-plain (written ∙ left-when-accepted taken last run.output (taken-is ∙ a)) a;
-        }
+        run-finished = finished taken refl
