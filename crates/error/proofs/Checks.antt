@@ -5,14 +5,16 @@ use mathlib.Core.Path.{◌≡◌, refl, sym, ap, ◌∙◌}
 use mathlib.Core.Logic.{◌↔◌, ◌⊎◌, inl, inr}
 use mathlib.Core.Bool.{Bool, true, false, not, true≢false, false≢true}
 use Prim.Native.Nat.{ℕ}
+use Rattle.std.specs.Prelude.{Err, IsErr, IsErrAnd}
+use Rattle.std.proofs.lemmas.Result.{err_from_is_err_and}
 use native.Mathlib.Omega.{arith}
 use lib.Dec.{eqb}
 use borrow.Author.Tests.{eqb-true, eq-eqb, ne_eqb, not-false}
 use Rattle.error.specs.Checks.{refuse_if, refuse_unequal, next, if_accepted}
 use Rattle.error.specs.Lengths.{length_fault}
 use Rattle.error.specs.declared.Refusal.{Refusal}
-use Rattle.error.specs.declared.Checked.{Checked}
-use Rattle.error.specs.declared.Checked.TheVariants.{Accepted, Refused}
+use Rattle.error.specs.Answer.{Checked}
+use Rattle.error.specs.Answer.{Accepted, Refused}
 
 -- ---- what they are
 
@@ -114,3 +116,15 @@ left-when-refused c r a b p = rw p
 pub length-accepted : (l n : ℕ) → (length_fault l n ≡ Accepted) ↔ (l ≡ n)
 unfolding length_fault
 length-accepted l n = refuse_unequal-accepted l n _
+
+-- ---- `?`, which leaves at the first refusal
+
+-- the check x was made, with the answer c, which refuses; the call hands that refusal on
+pub handed_on : (a c x b : Checked) {r : Refusal}
+    → c ≡ x
+    → c ≡ Refused r
+    → IsErr a × IsErrAnd a (λ y. y ≡ r)
+    → a ≡ next x b
+handed_on a c x b e p h =
+    let q = err_from_is_err_and a h.1 in
+    (q.1 ∙ ap Err q.2) ∙ sym ((next-refused x b _).1 (inl (sym e ∙ p)))

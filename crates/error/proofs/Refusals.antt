@@ -12,8 +12,8 @@ use Rattle.error.specs.declared.Refusal.TheVariants.{RowStartCount, RowStartFall
 use Rattle.error.specs.declared.Refusal.TheVariants.{Size, Tau, Radius, Bound, Length, Weight, NoNodes}
 use Rattle.error.specs.declared.Refusal.TheVariants.{SegmentCount, PoolCount, Breakpoint, StepCount}
 use Rattle.error.specs.declared.Refusal.TheVariants.{FirstBreakpoint, LookupTime, Law, SampledValue, Malformed}
-use Rattle.error.specs.declared.Checked.{Checked}
-use Rattle.error.specs.declared.Checked.TheVariants.{Accepted, Refused}
+use Rattle.error.specs.Answer.{Checked}
+use Rattle.error.specs.Answer.{Accepted, Refused}
 
 -- ---- an answer, read back from its number and values
 

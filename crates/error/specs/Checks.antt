@@ -2,8 +2,8 @@
 -- `next A (next B C)`: proofs/Checks.antt shows that this is the first refusal among them. Assumes nothing.
 use Rattle.std.specs.Prelude.{Bool, true, false, not, ℕ, eqb}
 use Rattle.error.specs.declared.Refusal.{Refusal}
-use Rattle.error.specs.declared.Checked.{Checked}
-use Rattle.error.specs.declared.Checked.TheVariants.{Accepted, Refused}
+use Rattle.error.specs.Answer.{Checked}
+use Rattle.error.specs.Answer.{Accepted, Refused}
 
 -- one check: refused where the test holds
 unfoldable pub refuse_if : Bool → Refusal → Checked

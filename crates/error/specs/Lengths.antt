@@ -2,7 +2,7 @@
 use Rattle.std.specs.Prelude.{ℕ}
 use Rattle.error.specs.Checks.{refuse_unequal}
 use Rattle.error.specs.declared.Refusal.TheVariants.{Length}
-use Rattle.error.specs.declared.Checked.{Checked}
+use Rattle.error.specs.Answer.{Checked}
 
 -- a length that is not n is refused with that length
 unfoldable pub length_fault : ℕ → ℕ → Checked

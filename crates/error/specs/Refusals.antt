@@ -6,8 +6,8 @@ use Rattle.error.specs.declared.Refusal.TheVariants.{RowStartCount, RowStartFall
 use Rattle.error.specs.declared.Refusal.TheVariants.{Size, Tau, Radius, Bound, Length, Weight, NoNodes}
 use Rattle.error.specs.declared.Refusal.TheVariants.{SegmentCount, PoolCount, Breakpoint, StepCount}
 use Rattle.error.specs.declared.Refusal.TheVariants.{FirstBreakpoint, LookupTime, Law, SampledValue, Malformed}
-use Rattle.error.specs.declared.Checked.{Checked}
-use Rattle.error.specs.declared.Checked.TheVariants.{Accepted, Refused}
+use Rattle.error.specs.Answer.{Checked}
+use Rattle.error.specs.Answer.{Accepted, Refused}
 
 -- a value that a refusal carries: a whole count or a real
 pub data Carried : Type 0 where

@@ -8,7 +8,7 @@ ghost use Rattle.error.specs.Lengths.{length_fault};
 ghost use Rattle.error.specs.Refusals.{Answers};
 
 // One case for each row, in the table's order. A case carries whole counts or reals, never a count turned real.
-#[derive(Clone, Copy)]
+#[derive(Clone, Copy, Debug, PartialEq)]
 pub enum Refusal {
     // Row 1: the count of row starts, which is not n + 1.
     RowStartCount(usize),
@@ -56,20 +56,13 @@ pub enum Refusal {
     Malformed(usize),
 }
 
-// The answer of a check, and of a call that only checks or that writes its result into a lent slice.
-#[derive(Clone, Copy)]
-pub enum Checked {
-    Accepted,
-    Refused(Refusal),
-}
-
 // Row 10 of one slice: its length is n.
-pub fn check_length(length: usize, n: usize) -> Checked
+pub fn check_length(length: usize, n: usize) -> Result<(), Refusal>
     ensures { Answers result (length_fault length n) }
 {
     if length == n {
-        Checked::Accepted
+        Ok(())
     } else {
-        Checked::Refused(Refusal::Length(length))
+        Err(Refusal::Length(length))
     }
 }

@@ -3,7 +3,7 @@ use mathlib.Core.Path.{◌≡◌}
 use mathlib.Core.Logic.{◌↔◌}
 use Prim.Native.Nat.{ℕ, ◌+◌, ◌≤◌}
 use borrow.Author.Tests.{ltb-false, le-ltb}
-use Rattle.error.specs.declared.Checked.TheVariants.{Accepted}
+use Rattle.error.specs.Answer.{Accepted}
 use Rattle.error.proofs.Checks.{refuse_if-accepted, refuse_unequal-accepted, next-accepted}
 use Rattle.graph_counts.specs.CountChecks.{size_fault, row_start_count_fault, entry_count_fault}
 

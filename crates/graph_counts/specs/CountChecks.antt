@@ -2,7 +2,7 @@
 use Rattle.std.specs.Prelude.{ℕ, ◌+◌, ltb}
 use Rattle.error.specs.Checks.{refuse_if, refuse_unequal, next}
 use Rattle.error.specs.declared.Refusal.TheVariants.{RowStartCount, EntryCount, Size}
-use Rattle.error.specs.declared.Checked.{Checked}
+use Rattle.error.specs.Answer.{Checked}
 
 -- row 6: n > 4,096, else columns > 65,535
 unfoldable pub size_fault : ℕ → ℕ → Checked

@@ -4,30 +4,30 @@
 ghost use Rattle.std.specs.Prelude.{◌≡◌};
 ghost use Rattle.graph_counts.specs.CountChecks.{size_fault, entry_count_fault};
 
-use error::{Checked, Refusal};
+use error::Refusal;
 
 pub mod kernel;
 
 // Row 6: n is at most 4,096, and the columns are at most 65,535.
-pub fn check_size(n: usize, columns: usize) -> Checked
+pub fn check_size(n: usize, columns: usize) -> Result<(), Refusal>
     ensures { result ≡ size_fault n columns }
 {
     if n > 4096 {
-        return Checked::Refused(Refusal::Size(n));
+        return Err(Refusal::Size(n));
     }
     if columns > 65535 {
-        return Checked::Refused(Refusal::Size(columns));
+        return Err(Refusal::Size(columns));
     }
-    Checked::Accepted
+    Ok(())
 }
 
 // Row 3, of the columns or of the values: they are as many as the last row start says.
-pub fn check_entry_count(count: usize, last: usize) -> Checked
+pub fn check_entry_count(count: usize, last: usize) -> Result<(), Refusal>
     ensures { result ≡ entry_count_fault count last }
 {
     if count == last {
-        Checked::Accepted
+        Ok(())
     } else {
-        Checked::Refused(Refusal::EntryCount(last))
+        Err(Refusal::EntryCount(last))
     }
 }

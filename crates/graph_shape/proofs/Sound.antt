@@ -1,6 +1,6 @@
 -- What the checks of the counts and the row starts accept: the whole exactly `Rows`. Assumes nothing.
 use Rattle.std.proofs.Common.{◌≡◌, ℕ, zero, suc, ◌+◌, ◌<◌, ◌≤◌, ◌↔◌, List, length, get_or, sym, ◌∙◌, ⊎_elim, le_refl, le_of_suc-le-suc, eq-or-lt_of_le, add-one, arith, ltb-false, le-ltb}
-use Rattle.error.specs.declared.Checked.TheVariants.{Accepted}
+use Rattle.error.specs.Answer.{Accepted}
 use Rattle.error.proofs.Checks.{next-accepted}
 use Rattle.graph_counts.proofs.Sound.{size-accepted, row-start-count-accepted, entry-count-accepted}
 use Rattle.graph_shape.specs.Rows.{Rows}

@@ -4,7 +4,7 @@ use Rattle.std.proofs.Common.{sym, ◌∙◌, true≢false, not-suc-le-zero, le_
 use Rattle.std.proofs.Math.Nat.{suc-le-suc_iff}
 use Rattle.error.specs.Checks.{refuse_if}
 use Rattle.error.specs.declared.Refusal.{Refusal}
-use Rattle.error.specs.declared.Checked.{Checked}
+use Rattle.error.specs.Answer.{Checked}
 
 -- the first i below n with p i, and n where there is none
 unfoldable pub first : (ℕ → Bool) → ℕ → ℕ

@@ -3,7 +3,7 @@
 use Rattle.std.specs.Prelude.{◌≡◌, ℕ, ◌+◌, ◌<◌, Bool, false, List, length, nat_lt, slice_index}
 use Rattle.error.specs.Checks.{next}
 use Rattle.error.specs.declared.Refusal.TheVariants.{RowStartFalls}
-use Rattle.error.specs.declared.Checked.{Checked}
+use Rattle.error.specs.Answer.{Checked}
 use Rattle.graph_shape.specs.First.{refuse_first}
 -- rows 6, 1 and 3
 unfoldable pub use Rattle.graph_counts.specs.CountChecks.{size_fault, row_start_count_fault, entry_count_fault}

@@ -4,26 +4,17 @@
 ghost use Rattle.std.specs.Prelude.{◌≡◌, ◌+◌, true, length};
 ghost use Rattle.graph_shape.specs.ShapeChecks.{Rise, row_starts_fault, shape_fault};
 
-use error::{Checked, Refusal};
+use error::Refusal;
 use graph_counts::kernel::check_row_start_count;
 use graph_counts::{check_entry_count, check_size};
 
 // Rows 6, 1, 2 and, of the columns, 3.
-pub fn check_shape(n: usize, row_ptr: &[usize], columns: usize) -> Checked
+pub fn check_shape(n: usize, row_ptr: &[usize], columns: usize) -> Result<(), Refusal>
     ensures { result ≡ shape_fault n row_ptr.now columns }
 {
-    let size = check_size(n, columns);
-    let Checked::Accepted = size else {
-        return size;
-    };
-    let count = check_row_start_count(n, row_ptr.len());
-    let Checked::Accepted = count else {
-        return count;
-    };
-    let starts = check_row_starts(n, row_ptr);
-    let Checked::Accepted = starts else {
-        return starts;
-    };
+    check_size(n, columns)?;
+    check_row_start_count(n, row_ptr.len())?;
+    check_row_starts(n, row_ptr)?;
     check_entry_count(columns, row_ptr[n])
 }
 
@@ -43,17 +34,17 @@ fn row_starts_rise(n: usize, row_ptr: &[usize]) -> bool
 }
 
 // Row 2: no row start exceeds the next. Accepted row starts cost one walk that only finds out whether there is a fault.
-fn check_row_starts(n: usize, row_ptr: &[usize]) -> Checked
+fn check_row_starts(n: usize, row_ptr: &[usize]) -> Result<(), Refusal>
     requires { length row_ptr.now ≡ n + 1 }
     ensures { result ≡ row_starts_fault n row_ptr.now }
 {
     if row_starts_rise(n, row_ptr) {
-        return Checked::Accepted;
+        return Ok(());
     }
     for i in 0..n {
         if row_ptr[i] > row_ptr[i + 1] {
-            return Checked::Refused(Refusal::RowStartFalls(i));
+            return Err(Refusal::RowStartFalls(i));
         }
     }
-    Checked::Accepted
+    Ok(())
 }
