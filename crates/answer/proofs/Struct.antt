@@ -5,8 +5,8 @@ use mathlib.Core.List.{List, [], ◌∷◌}
 use Prim.Native.Nat.{ℕ, zero, suc}
 use lib.Ieee.{Float}
 use Rattle.error.specs.declared.Refusal.{Refusal}
-use Rattle.error.specs.declared.Checked.{Checked}
-use Rattle.error.specs.declared.Checked.TheVariants.{Accepted, Refused}
+use Rattle.error.specs.Answer.{Checked}
+use Rattle.error.specs.Answer.{Accepted, Refused}
 use Rattle.error.specs.declared.Refusal.TheVariants.{RowStartCount, RowStartFalls, EntryCount, Column, Value}
 use Rattle.error.specs.declared.Refusal.TheVariants.{Size, Tau, Radius, Bound, Length, Weight, NoNodes}
 use Rattle.error.specs.declared.Refusal.TheVariants.{SegmentCount, PoolCount, Breakpoint, StepCount}

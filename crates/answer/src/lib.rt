@@ -5,7 +5,7 @@
 ghost use Rattle.std.specs.Prelude.{◌≡◌, []};
 ghost use Rattle.answer.specs.Struct.{told, refusal_struct, struct_of};
 
-use error::{Checked, Refusal};
+use error::Refusal;
 use refusal_rows::{Row, row_of};
 
 // An answer. No call's answer carries a count and a real, or two counts.
@@ -63,11 +63,11 @@ pub fn refused(refusal: Refusal) -> Answer
 }
 
 // The answer of a call that gives nothing but its answer.
-pub fn checked(answer: Checked) -> Answer
+pub fn checked(answer: Result<(), Refusal>) -> Answer
     ensures { result ≡ struct_of answer [] }
 {
     match answer {
-        Checked::Accepted => Answer {
+        Ok(()) => Answer {
             number: 0,
             counts: 0,
             count: 0,
@@ -75,6 +75,6 @@ pub fn checked(answer: Checked) -> Answer
             first: 0.0,
             second: 0.0,
         },
-        Checked::Refused(refusal) => refused(refusal),
+        Err(refusal) => refused(refusal),
     }
 }

@@ -119,12 +119,6 @@ length-accepted l n = refuse_unequal-accepted l n _
 
 -- ---- `?`, which leaves at the first refusal
 
--- the check x was made, with the answer c, which refuses; the call hands that refusal on
-pub handed_on : (a c x b : Checked) {r : Refusal}
-    → c ≡ x
-    → c ≡ Refused r
-    → IsErr a × IsErrAnd a (λ y. y ≡ r)
-    → a ≡ next x b
-handed_on a c x b e p h =
-    let q = err_from_is_err_and a h.1 in
-    (q.1 ∙ ap Err q.2) ∙ sym ((next-refused x b _).1 (inl (sym e ∙ p)))
+-- what `?` hands on is the refusal that it met
+pub handed_on : {a : Checked} {r : Refusal} → IsErr a × IsErrAnd a (λ y. y ≡ r) → a ≡ Refused r
+handed_on {a} h = let q = err_from_is_err_and a h.1 in q.1 ∙ ap Err q.2

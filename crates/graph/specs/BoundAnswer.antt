@@ -1,7 +1,7 @@
 -- What `gershgorin_bound_csr` answers (01, part 2). Its enum holds a bound or a refusal, and the refusal has 01's number and values.
 use Rattle.std.specs.Prelude.{◌≡◌, Float}
-use Rattle.error.specs.declared.Checked.{Checked}
-use Rattle.error.specs.declared.Checked.TheVariants.{Accepted, Refused}
+use Rattle.error.specs.Answer.{Checked}
+use Rattle.error.specs.Answer.{Accepted, Refused}
 use Rattle.error.specs.Refusals.{Answers}
 use Rattle.graph.specs.declared.Bounded.{Bounded}
 use Rattle.graph.specs.declared.Bounded.TheVariants as bounded

@@ -1,6 +1,6 @@
 -- What the row product answers and leaves (01, part 1).
 use Rattle.std.specs.Prelude.{List, ℕ, length, Float}
-use Rattle.error.specs.declared.Checked.{Checked}
+use Rattle.error.specs.Answer.{Checked}
 use Rattle.error.specs.Checks.{next, if_accepted}
 use Rattle.error.specs.Lengths.{length_fault}
 use Rattle.graph_checks.specs.PatternChecks.{csr_fault}

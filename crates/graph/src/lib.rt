@@ -10,7 +10,7 @@ ghost use Rattle.graph_bound.specs.Gershgorin.{gershgorin_bound};
 ghost use Rattle.graph.specs.BoundAnswer.{BoundAnswers};
 ghost use Rattle.graph.specs.ProductOutcome.{product_outcome};
 
-use error::{Checked, Refusal, check_length};
+use error::{Refusal, check_length};
 // the checks, callable from here too
 pub use graph_checks::{check_pattern, from_csr_parts};
 
@@ -28,7 +28,7 @@ pub fn gershgorin_bound_csr(n: usize, row_ptr: &[usize], col_idx: &[u32], vals: 
         (gershgorin_bound binary64 row_ptr.now vals.now) }
 {
     let checked = from_csr_parts(n, row_ptr, col_idx, vals);
-    let Checked::Refused(refusal) = checked else {
+    let Err(refusal) = checked else {
         return Bounded::Bound(graph_bound::kernel::gershgorin(row_ptr, vals));
     };
     Bounded::Refused(refusal)
@@ -44,24 +44,24 @@ pub fn apply_into_slice(
     vals: &[f64],
     src: &[f64],
     dst: &mut [f64],
-) -> Checked
+) -> Result<(), Refusal>
     ensures answer { let outcome = product_outcome n row_ptr.now col_idx.now vals.now
         src.now dst.old in Answers result outcome.answer }
     ensures output { let outcome = product_outcome n row_ptr.now col_idx.now vals.now
         src.now dst.old in dst.new ≡ outcome.output }
 {
     let laplacian = from_csr_parts(n, row_ptr, col_idx, vals);
-    let Checked::Accepted = laplacian else {
+    let Ok(()) = laplacian else {
         return laplacian;
     };
     let signal = check_length(src.len(), n);
-    let Checked::Accepted = signal else {
+    let Ok(()) = signal else {
         return signal;
     };
     let output = check_length(dst.len(), n);
-    let Checked::Accepted = output else {
+    let Ok(()) = output else {
         return output;
     };
     graph_rows::kernel::product(row_ptr, col_idx, vals, src, dst);
-    Checked::Accepted
+    Ok(())
 }

@@ -5,7 +5,7 @@ use mathlib.Core.List.{List}
 use Prim.Native.Nat.{ℕ}
 use lib.ListN.{length, get_or}
 use lib.Ieee.{Float}
-use Rattle.error.specs.declared.Checked.TheVariants.{Accepted}
+use Rattle.error.specs.Answer.{Accepted}
 use Rattle.error.proofs.Checks.{next-accepted}
 use Rattle.graph_counts.proofs.Sound.{entry-count-accepted}
 use Rattle.graph_shape.proofs.Sound.{shape-accepted}

@@ -1,3 +1,4 @@
 pub mod First
 pub mod Pattern
 pub mod PatternChecks
+pub mod Parts

@@ -3,7 +3,7 @@
 -- Assumes nothing.
 use Rattle.std.specs.Prelude.{List, ℕ, length, get_or, Float}
 use Rattle.error.specs.Checks.{next}
-use Rattle.error.specs.declared.Checked.{Checked}
+use Rattle.error.specs.Answer.{Checked}
 -- the checks of the row starts, of the columns and of the values, as the crates above name them
 unfoldable pub use Rattle.graph_shape.specs.ShapeChecks.{size_fault, row_start_count_fault, row_starts_fault, entry_count_fault, shape_fault}
 pub use Rattle.graph_shape.specs.ShapeChecks.{falls_at}

@@ -3,41 +3,41 @@
 #![tactic(auto)]
 
 ghost use Rattle.error.specs.Refusals.{Answers};
-ghost use Rattle.graph_checks.specs.PatternChecks.{pattern_fault, csr_fault};
+ghost use Rattle.graph_checks.specs.Parts.{parts_fault};
+ghost use Rattle.graph_checks.specs.PatternChecks.{pattern_fault};
 
-use error::Checked;
+use error::Refusal;
 use graph_columns::kernel::check_columns;
 use graph_counts::check_entry_count;
 use graph_shape::check_shape;
 use graph_values::kernel::check_values;
 
+pub mod kernel;
+
+// The parts of a Laplacian as a caller lends them: n, the row starts, the columns and the values. Nothing of them has been checked.
+#[derive(Clone, Copy)]
+pub struct CsrParts<'a> {
+    pub n: usize,
+    pub row_ptr: &'a [usize],
+    pub col_idx: &'a [u32],
+    pub vals: &'a [f64],
+}
+
 // Whether the parts make up a Laplacian: rows 6 and 1 to 5, in that order. The first row start need not be 0; the
 // entries before it belong to no row, and are checked like the others.
-pub fn from_csr_parts(n: usize, row_ptr: &[usize], col_idx: &[u32], vals: &[f64]) -> Checked
-    ensures { Answers result (csr_fault n row_ptr.now col_idx.now vals.now) }
+pub fn from_csr_parts(parts: CsrParts<'_>) -> Result<(), Refusal>
+    ensures { Answers result (parts_fault parts.entry) }
 {
-    let shape = check_shape(n, row_ptr, col_idx.len());
-    let Checked::Accepted = shape else {
-        return shape;
-    };
-    let count = check_entry_count(vals.len(), row_ptr[n]);
-    let Checked::Accepted = count else {
-        return count;
-    };
-    let columns = check_columns(n, row_ptr, col_idx);
-    let Checked::Accepted = columns else {
-        return columns;
-    };
-    check_values(n, row_ptr, vals)
+    check_shape(parts.n, parts.row_ptr, parts.col_idx.len())?;
+    check_entry_count(parts.vals.len(), parts.row_ptr[parts.n])?;
+    check_columns(parts.n, parts.row_ptr, parts.col_idx)?;
+    check_values(parts.n, parts.row_ptr, parts.vals)
 }
 
 // The same of a pattern, which has no values: rows 6 and 1 to 4, row 3 for the columns alone.
-pub fn check_pattern(n: usize, row_ptr: &[usize], col_idx: &[u32]) -> Checked
+pub fn check_pattern(n: usize, row_ptr: &[usize], col_idx: &[u32]) -> Result<(), Refusal>
     ensures { Answers result (pattern_fault n row_ptr.now col_idx.now) }
 {
-    let shape = check_shape(n, row_ptr, col_idx.len());
-    let Checked::Accepted = shape else {
-        return shape;
-    };
+    check_shape(n, row_ptr, col_idx.len())?;
     check_columns(n, row_ptr, col_idx)
 }

@@ -5,7 +5,7 @@ use mathlib.Core.List.{List}
 use Prim.Native.Nat.{ℕ, ◌<◌}
 use lib.ListN.{length, get_or}
 use borrow.Author.Tests.{leb-false, lt-leb}
-use Rattle.error.specs.declared.Checked.TheVariants.{Accepted}
+use Rattle.error.specs.Answer.{Accepted}
 use Rattle.graph_shape.proofs.First.{refuse_first-accepted}
 use Rattle.graph_columns.specs.ColumnChecks.{column_fault}
 

@@ -1,7 +1,7 @@
 -- The check of the columns: row 4 of document 01's table, over all inputs. Assumes nothing.
 use Rattle.std.specs.Prelude.{Bool, List, ℕ, leb, length, get_or}
 use Rattle.error.specs.declared.Refusal.TheVariants.{Column}
-use Rattle.error.specs.declared.Checked.{Checked}
+use Rattle.error.specs.Answer.{Checked}
 use Rattle.graph_shape.specs.First.{refuse_first}
 
 -- entry k's column is n or more

@@ -6,7 +6,7 @@ ghost use Rattle.graph_shape.specs.First.{first};
 ghost use Rattle.graph_shape.specs.Rows.{Rows};
 ghost use Rattle.graph_columns.specs.ColumnChecks.{outside_at, column_fault};
 
-use error::{Checked, Refusal};
+use error::Refusal;
 
 // Whether every column is a node, by one walk over all of them.
 fn columns_inside(n: usize, col_idx: &[u32]) -> bool
@@ -41,13 +41,13 @@ fn first_column_outside(n: usize, row_ptr: &[usize], col_idx: &[u32]) -> usize
 }
 
 // Row 4: every column is below n.
-pub fn check_columns(n: usize, row_ptr: &[usize], col_idx: &[u32]) -> Checked
+pub fn check_columns(n: usize, row_ptr: &[usize], col_idx: &[u32]) -> Result<(), Refusal>
     requires { Rows n row_ptr.now (length col_idx.now) }
     ensures { result ≡ column_fault n col_idx.now }
 {
     if columns_inside(n, col_idx) {
-        return Checked::Accepted;
+        return Ok(());
     }
     let k = first_column_outside(n, row_ptr, col_idx);
-    Checked::Refused(Refusal::Column(col_idx[k] as usize))
+    Err(Refusal::Column(col_idx[k] as usize))
 }

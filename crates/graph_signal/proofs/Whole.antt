@@ -9,8 +9,8 @@ use Rattle.scratch.specs.Parts.{part}
 use Rattle.scratch.proofs.Parts.{part-whole}
 use Rattle.error.specs.Refusals.{Answers}
 use Rattle.error.specs.Lengths.{length_fault}
-use Rattle.error.specs.declared.Checked.{Checked}
-use Rattle.error.specs.declared.Checked.TheVariants.{Accepted}
+use Rattle.error.specs.Answer.{Checked}
+use Rattle.error.specs.Answer.{Accepted}
 use Rattle.error.proofs.Checks.{length-accepted}
 use Rattle.error.proofs.Left.{fault-accepted}
 

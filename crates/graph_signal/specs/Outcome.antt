@@ -3,7 +3,7 @@ use Rattle.std.specs.Prelude.{List, length, Float}
 use Rattle.std.specs.Float.{binary64}
 use Rattle.arithmetic.specs.Arithmetic.{ieee}
 use Rattle.arithmetic.specs.Product.{plus_scaled}
-use Rattle.error.specs.declared.Checked.{Checked}
+use Rattle.error.specs.Answer.{Checked}
 use Rattle.error.specs.Checks.{if_accepted}
 use Rattle.error.specs.Lengths.{length_fault}
 

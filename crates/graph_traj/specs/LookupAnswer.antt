@@ -1,7 +1,7 @@
 -- What `segment_index` answers (01, part 10). Its enum holds a segment or a refusal, and the refusal has 01's number and values.
 use Rattle.std.specs.Prelude.{◌≡◌, ℕ}
-use Rattle.error.specs.declared.Checked.{Checked}
-use Rattle.error.specs.declared.Checked.TheVariants.{Accepted, Refused}
+use Rattle.error.specs.Answer.{Checked}
+use Rattle.error.specs.Answer.{Accepted, Refused}
 use Rattle.error.specs.Refusals.{Answers}
 use Rattle.graph_traj.specs.declared.Located.{Located}
 use Rattle.graph_traj.specs.declared.Located.TheVariants as located

@@ -5,7 +5,7 @@ ghost use Rattle.graph_traj.specs.Lookup.{segment_at};
 ghost use Rattle.graph_traj.specs.LookupAnswer.{LookupAnswers};
 ghost use Rattle.graph_traj_breakpoints.specs.LookupChecks.{lookup_fault};
 
-use error::{Checked, Refusal};
+use error::Refusal;
 
 pub mod kernel;
 
@@ -23,7 +23,7 @@ pub fn segment_index(segments: usize, breakpoints: &[f64], t: f64) -> Located
         (segment_at segments breakpoints.now t) }
 {
     let checked = graph_traj_breakpoints::check_lookup(segments, breakpoints, t);
-    let Checked::Refused(refusal) = checked else {
+    let Err(refusal) = checked else {
         return Located::Segment(kernel::segment_index_binary(segments, breakpoints, t));
     };
     Located::Refused(refusal)

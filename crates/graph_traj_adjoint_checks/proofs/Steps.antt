@@ -4,7 +4,7 @@ use mathlib.Core.Bool.{Bool, cond}
 use Prim.Native.Nat.{ℕ}
 use lib.Dec.{eqb}
 use borrow.Author.Tests.{eq-eqb, ne_eqb}
-use Rattle.error.specs.declared.Checked.{Checked}
+use Rattle.error.specs.Answer.{Checked}
 
 module _ (steps : ℕ) (answer none some : Checked) where
   pub no_steps : steps ≡ 0 → answer ≡ none → answer ≡ cond (eqb steps 0) none some

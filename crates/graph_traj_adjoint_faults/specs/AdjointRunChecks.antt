@@ -3,7 +3,7 @@
 use Rattle.std.specs.Prelude.{Bool, cond, ℕ, ◌+◌, ◌*◌, eqb, ltb, length, Float}
 use Rattle.error.specs.Checks.{refuse_if, next}
 use Rattle.error.specs.declared.Refusal.TheVariants.{StepCount}
-use Rattle.error.specs.declared.Checked.{Checked}
+use Rattle.error.specs.Answer.{Checked}
 use Rattle.graph_traj_parts.specs.Trajectory.{Trajectory}
 use Rattle.graph_traj_parts.specs.TrajectoryChecks.{adjoint_trajectory_fault}
 use Rattle.magnus_graph_faults.specs.StepChecks.{bound_fault, step_length_fault, room_fault}

@@ -11,7 +11,7 @@ use lib.ListN.{length}
 use lib.Ieee.{Float, lt}
 use lib.Ieee.Scale.{finite}
 use borrow.Author.Tests.{lt-ltb, le-ltb, not-false}
-use Rattle.error.specs.declared.Checked.TheVariants.{Accepted}
+use Rattle.error.specs.Answer.{Accepted}
 use Rattle.error.proofs.Checks.{refuse_if-accepted, next-accepted}
 use Rattle.graph_traj_counts.proofs.Sound.{neither}
 pub use Rattle.graph_traj_counts.proofs.Sound.{count-accepted, segment-count-accepted, pool-count-accepted}

@@ -5,7 +5,7 @@ use Rattle.std.specs.Float.Ieee.{lt, le}
 use Rattle.std.specs.Float.Ieee.Scale.{finite}
 use Rattle.error.specs.Checks.{refuse_if, next}
 use Rattle.error.specs.declared.Refusal.TheVariants.{Breakpoint, LookupTime}
-use Rattle.error.specs.declared.Checked.{Checked}
+use Rattle.error.specs.Answer.{Checked}
 use Rattle.graph_checks.specs.First.{refuse_first}
 use Rattle.graph_traj_breakpoints.specs.Breakpoints.{breakpoint}
 -- ---- the rows of the table

@@ -5,7 +5,7 @@
 ghost use Rattle.std.specs.Prelude.{◌≡◌, not, ◌<◌, length};
 ghost use Rattle.graph_traj_breakpoints.specs.LookupChecks.{not_rising_at, breakpoints_fault, lookup_time_fault, lookup_fault};
 
-use error::{Checked, Refusal};
+use error::Refusal;
 use graph_traj_counts::{check_pool_count, check_segment_count};
 
 // Whether breakpoint i is finite and above its predecessor, if it has one.
@@ -22,43 +22,34 @@ fn is_rising(breakpoints: &[f64], i: usize) -> bool
 }
 
 // Row 15: every breakpoint is finite and above its predecessor.
-pub fn check_breakpoints(breakpoints: &[f64]) -> Checked
+pub fn check_breakpoints(breakpoints: &[f64]) -> Result<(), Refusal>
     ensures { result ≡ breakpoints_fault breakpoints.now }
 {
     for i in 0..breakpoints.len() {
         if !is_rising(breakpoints, i) {
-            return Checked::Refused(Refusal::Breakpoint(breakpoints[i]));
+            return Err(Refusal::Breakpoint(breakpoints[i]));
         }
     }
-    Checked::Accepted
+    Ok(())
 }
 
 // Row 18: t lies from the first to the last breakpoint. Where t is a NaN, no comparison holds.
-pub fn check_lookup_time(first: f64, last: f64, t: f64) -> Checked
+pub fn check_lookup_time(first: f64, last: f64, t: f64) -> Result<(), Refusal>
     ensures { result ≡ lookup_time_fault first last t }
 {
     if (first <= t) & (t <= last) {
-        Checked::Accepted
+        Ok(())
     } else {
-        Checked::Refused(Refusal::LookupTime(t))
+        Err(Refusal::LookupTime(t))
     }
 }
 
 // All checks of the lookup: rows 13, 14 for the breakpoints, 15 and 18.
-pub fn check_lookup(segments: usize, breakpoints: &[f64], t: f64) -> Checked
+pub fn check_lookup(segments: usize, breakpoints: &[f64], t: f64) -> Result<(), Refusal>
     ensures { result ≡ lookup_fault segments breakpoints.now t }
 {
-    let count = check_segment_count(segments);
-    let Checked::Accepted = count else {
-        return count;
-    };
-    let breakpoint_count = check_pool_count(breakpoints.len(), segments + 1);
-    let Checked::Accepted = breakpoint_count else {
-        return breakpoint_count;
-    };
-    let rising = check_breakpoints(breakpoints);
-    let Checked::Accepted = rising else {
-        return rising;
-    };
+    check_segment_count(segments)?;
+    check_pool_count(breakpoints.len(), segments + 1)?;
+    check_breakpoints(breakpoints)?;
     check_lookup_time(breakpoints[0], breakpoints[segments], t)
 }

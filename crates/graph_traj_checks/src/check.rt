@@ -4,19 +4,19 @@ ghost use Rattle.graph_traj_breakpoints.specs.Breakpoints.{Breakpoints};
 ghost use Rattle.graph_traj_parts.specs.Trajectory.{trajectory};
 ghost use Rattle.graph_traj_faults.specs.RunChecks.{step_count_fault, segments_radius_fault, signals_fault, run_lengths_fault, run_fault};
 
-use error::{Checked, Refusal, check_length};
+use error::{Refusal, check_length};
 use graph_traj_parts::{check_first_breakpoint, check_trajectory};
 use graph_traj_segment::kernel::Segment;
 use magnus_graph_checks::{check_bound, check_radius, check_room};
 
 // Row 16 of a forward run: there are 1 to 65,535 steps.
-pub fn check_step_count(steps: usize) -> Checked
+pub fn check_step_count(steps: usize) -> Result<(), Refusal>
     ensures { result ≡ step_count_fault steps }
 {
     if (steps == 0) | (steps > 65535) {
-        Checked::Refused(Refusal::StepCount(steps))
+        Err(Refusal::StepCount(steps))
     } else {
-        Checked::Accepted
+        Ok(())
     }
 }
 
@@ -27,28 +27,22 @@ fn check_segments_radius(
     steps: usize,
     breakpoints: &[f64],
     segments: usize,
-) -> Checked
+) -> Result<(), Refusal>
     requires { (steps ≤ 65535) × Breakpoints segments breakpoints.now }
     ensures { result ≡ segments_radius_fault radius_check bound steps breakpoints.now segments }
 {
     for i in 0..segments {
         let segment = Segment::new(breakpoints[i], breakpoints[i + 1], steps);
-        let within = check_radius(radius_check, segment.tau, bound);
-        let Checked::Accepted = within else {
-            return within;
-        };
+        check_radius(radius_check, segment.tau, bound)?;
     }
-    Checked::Accepted
+    Ok(())
 }
 
 // Row 10 for the signal and the output, given by their lengths.
-pub fn check_signals(n: usize, signal: usize, output: usize) -> Checked
+pub fn check_signals(n: usize, signal: usize, output: usize) -> Result<(), Refusal>
     ensures { result ≡ signals_fault n signal output }
 {
-    let source = check_length(signal, n);
-    let Checked::Accepted = source else {
-        return source;
-    };
+    check_length(signal, n)?;
     check_length(output, n)
 }
 
@@ -59,13 +53,10 @@ pub fn check_run_lengths(
     output: usize,
     work: usize,
     need: usize,
-) -> Checked
+) -> Result<(), Refusal>
     ensures { result ≡ run_lengths_fault n signal output work need }
 {
-    let signals = check_signals(n, signal, output);
-    let Checked::Accepted = signals else {
-        return signals;
-    };
+    check_signals(n, signal, output)?;
     check_room(work, need)
 }
 
@@ -85,12 +76,12 @@ pub fn check_run(
     signal: usize,
     output: usize,
     work: usize,
-) -> Checked
+) -> Result<(), Refusal>
     ensures { result ≡ run_fault (trajectory n row_ptr.now col_idx.now segments
         breakpoints.now starts.now ends.now laws.now)
         steps rho_bar_max radius_check signal output work }
 {
-    let along = check_trajectory(
+    check_trajectory(
         n,
         row_ptr,
         col_idx,
@@ -99,25 +90,10 @@ pub fn check_run(
         starts,
         ends,
         laws,
-    );
-    let Checked::Accepted = along else {
-        return along;
-    };
-    let bound = check_bound(rho_bar_max);
-    let Checked::Accepted = bound else {
-        return bound;
-    };
-    let count = check_step_count(steps);
-    let Checked::Accepted = count else {
-        return count;
-    };
-    let from_zero = check_first_breakpoint(breakpoints[0]);
-    let Checked::Accepted = from_zero else {
-        return from_zero;
-    };
-    let lengths = check_run_lengths(n, signal, output, work, 7 * n + 2 * col_idx.len());
-    let Checked::Accepted = lengths else {
-        return lengths;
-    };
+    )?;
+    check_bound(rho_bar_max)?;
+    check_step_count(steps)?;
+    check_first_breakpoint(breakpoints[0])?;
+    check_run_lengths(n, signal, output, work, 7 * n + 2 * col_idx.len())?;
     check_segments_radius(radius_check, rho_bar_max, steps, breakpoints, segments)
 }

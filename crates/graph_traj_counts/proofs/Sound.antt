@@ -8,7 +8,7 @@ use lib.Dec.{eqb, ltb}
 use borrow.Author.Tests.{eqb-false, ne_eqb, ltb-false, le-ltb}
 use Rattle.error.specs.Checks.{refuse_if}
 use Rattle.error.specs.declared.Refusal.{Refusal}
-use Rattle.error.specs.declared.Checked.TheVariants.{Accepted}
+use Rattle.error.specs.Answer.{Accepted}
 use Rattle.error.proofs.Checks.{refuse_if-accepted, refuse_unequal-accepted}
 use Rattle.graph_traj_counts.specs.CountChecks.{segment_count_fault, pool_count_fault}
 

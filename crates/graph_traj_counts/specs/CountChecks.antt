@@ -2,7 +2,7 @@
 use Rattle.std.specs.Prelude.{◌||◌, ℕ, ◌+◌, ◌*◌, eqb, ltb}
 use Rattle.error.specs.Checks.{refuse_if, refuse_unequal, next}
 use Rattle.error.specs.declared.Refusal.TheVariants.{SegmentCount, PoolCount}
-use Rattle.error.specs.declared.Checked.{Checked}
+use Rattle.error.specs.Answer.{Checked}
 
 -- row 13: the segments are 0 or over 65,535
 unfoldable pub segment_count_fault : ℕ → Checked

@@ -3,7 +3,7 @@ ghost use Rattle.std.specs.Prelude.{◌≡◌, ◌≤◌};
 ghost use Rattle.graph_traj_counts.specs.CountChecks.{counts_fault};
 
 use crate::check_pool_count;
-use error::Checked;
+use error::Refusal;
 
 // Row 14 for the breakpoints, the start pool, the end pool and the laws, given by their lengths. A pool holds a value for each column
 // in each segment; segments and columns are at most 65,535, so that their product is a number of the machine.
@@ -14,22 +14,13 @@ pub fn check_counts(
     starts: usize,
     ends: usize,
     laws: usize,
-) -> Checked
+) -> Result<(), Refusal>
     requires { (segments ≤ 65535) × (columns ≤ 65535) }
     ensures { result ≡ counts_fault segments columns breakpoints starts ends laws }
 {
-    let of_breakpoints = check_pool_count(breakpoints, segments + 1);
-    let Checked::Accepted = of_breakpoints else {
-        return of_breakpoints;
-    };
+    check_pool_count(breakpoints, segments + 1)?;
     let values = segments * columns;
-    let of_starts = check_pool_count(starts, values);
-    let Checked::Accepted = of_starts else {
-        return of_starts;
-    };
-    let of_ends = check_pool_count(ends, values);
-    let Checked::Accepted = of_ends else {
-        return of_ends;
-    };
+    check_pool_count(starts, values)?;
+    check_pool_count(ends, values)?;
     check_pool_count(laws, segments)
 }

@@ -7,8 +7,8 @@ use native.Mathlib.Nat.{not-suc-le-zero, eq-or-lt_of_le, le_of_suc-le-suc, le_re
 use native.Mathlib.Numerals.{add-one}
 use native.Mathlib.Omega.{arith}
 use Rattle.error.specs.declared.Refusal.{Refusal}
-use Rattle.error.specs.declared.Checked.{Checked}
-use Rattle.error.specs.declared.Checked.TheVariants.{Accepted, Refused}
+use Rattle.error.specs.Answer.{Checked}
+use Rattle.error.specs.Answer.{Accepted, Refused}
 use Rattle.error.proofs.Checks.{next-accepted, next-refused, accepted-then}
 use Rattle.graph_traj_faults.specs.Each.{each}
 

@@ -6,7 +6,7 @@ use mathlib.Core.Bool.{Bool}
 use mathlib.Core.List.{List}
 use Prim.Native.Nat.{ℕ, ◌≤◌, ◌<◌}
 use lib.Ieee.{Float}
-use Rattle.error.specs.declared.Checked.TheVariants.{Accepted}
+use Rattle.error.specs.Answer.{Accepted}
 use Rattle.error.proofs.Checks.{length-accepted}
 use Rattle.graph_traj_breakpoints.proofs.LookupSound.{count-accepted}
 use Rattle.graph_traj_parts.specs.Trajectory.{Trajectory}

@@ -2,8 +2,8 @@
 -- Assumes nothing.
 use Rattle.std.specs.Prelude.{ℕ, zero, suc}
 use Rattle.error.specs.Checks.{next}
-use Rattle.error.specs.declared.Checked.{Checked}
-use Rattle.error.specs.declared.Checked.TheVariants.{Accepted}
+use Rattle.error.specs.Answer.{Checked}
+use Rattle.error.specs.Answer.{Accepted}
 
 -- check 0, check 1, .., check (n - 1)
 unfoldable pub each : (ℕ → Checked) → ℕ → Checked

@@ -4,7 +4,7 @@ use Rattle.std.specs.Prelude.{Bool, ◌||◌, List, ℕ, ◌+◌, ◌*◌, eqb, 
 use Rattle.error.specs.Checks.{refuse_if, next}
 use Rattle.error.specs.Lengths.{length_fault}
 use Rattle.error.specs.declared.Refusal.TheVariants.{StepCount}
-use Rattle.error.specs.declared.Checked.{Checked}
+use Rattle.error.specs.Answer.{Checked}
 use Rattle.graph_traj_breakpoints.specs.Breakpoints.{breakpoint}
 use Rattle.graph_traj_segment.specs.Times.{segment_tau}
 use Rattle.graph_traj_parts.specs.Trajectory.{Trajectory}

@@ -3,7 +3,7 @@
 use Rattle.std.specs.Prelude.{Bool, List, ℕ, ltb, length, get_or, Float}
 use Rattle.error.specs.Checks.{next}
 use Rattle.error.specs.declared.Refusal.TheVariants.{Law}
-use Rattle.error.specs.declared.Checked.{Checked}
+use Rattle.error.specs.Answer.{Checked}
 use Rattle.graph_checks.specs.First.{refuse_first}
 use Rattle.graph_checks.specs.PatternChecks.{value_fault}
 -- row 14, as the crates above name it

@@ -7,19 +7,19 @@ ghost use Rattle.graph_checks.specs.First.{first};
 ghost use Rattle.graph_checks.specs.PatternChecks.{not_finite_at, value_fault};
 ghost use Rattle.graph_traj_lists.specs.ListChecks.{laws_fault, lists_fault};
 
-use error::{Checked, Refusal};
+use error::Refusal;
 
 // Row 19: every law is 0, 1 or 2. A law is a byte, the smallest number that holds them.
-pub fn check_laws(laws: &[u8]) -> Checked
+pub fn check_laws(laws: &[u8]) -> Result<(), Refusal>
     ensures { result ≡ laws_fault laws.now }
 {
     for k in 0..laws.len() {
         let law = laws[k] as usize;
         if law > 2 {
-            return Checked::Refused(Refusal::Law(law));
+            return Err(Refusal::Law(law));
         }
     }
-    Checked::Accepted
+    Ok(())
 }
 
 // The first place whose value is not finite, or the number of values.
@@ -37,27 +37,21 @@ pub fn first_not_finite(values: &[f64]) -> usize
 }
 
 // Row 5, of one pool: every value is finite. An accepted pool costs one walk that only finds out whether there is a fault.
-pub fn check_pool(values: &[f64]) -> Checked
+pub fn check_pool(values: &[f64]) -> Result<(), Refusal>
     ensures { result ≡ value_fault values.now }
 {
     if float::all_finite(values) {
-        return Checked::Accepted;
+        return Ok(());
     }
     let k = first_not_finite(values);
-    Checked::Refused(Refusal::Value(values[k]))
+    Err(Refusal::Value(values[k]))
 }
 
 // Row 19, then row 5 for all start lists and for all end lists.
-pub fn check_lists(laws: &[u8], starts: &[f64], ends: &[f64]) -> Checked
+pub fn check_lists(laws: &[u8], starts: &[f64], ends: &[f64]) -> Result<(), Refusal>
     ensures { result ≡ lists_fault laws.now starts.now ends.now }
 {
-    let known = check_laws(laws);
-    let Checked::Accepted = known else {
-        return known;
-    };
-    let of_starts = check_pool(starts);
-    let Checked::Accepted = of_starts else {
-        return of_starts;
-    };
+    check_laws(laws)?;
+    check_pool(starts)?;
     check_pool(ends)
 }

@@ -9,7 +9,7 @@ use native.Mathlib.Omega.{arith}
 use lib.ListN.{length, get_or}
 use lib.Ieee.{Float}
 use borrow.Author.Tests.{ltb-false, le-ltb, not-false}
-use Rattle.error.specs.declared.Checked.TheVariants.{Accepted}
+use Rattle.error.specs.Answer.{Accepted}
 use Rattle.error.proofs.Checks.{refuse_if-accepted, refuse_unequal-accepted, next-accepted}
 use Rattle.graph_checks.specs.Pattern.{Pattern}
 use Rattle.graph_checks.specs.PatternChecks.{pattern_fault}

@@ -7,7 +7,7 @@ use Rattle.std.specs.Float.Ieee.{eq}
 use Rattle.arithmetic.specs.Arithmetic.{ieee}
 use Rattle.error.specs.Checks.{refuse_if, refuse_unequal, next}
 use Rattle.error.specs.declared.Refusal.TheVariants.{SegmentCount, FirstBreakpoint}
-use Rattle.error.specs.declared.Checked.{Checked}
+use Rattle.error.specs.Answer.{Checked}
 use Rattle.graph_checks.specs.PatternChecks.{pattern_fault}
 use Rattle.graph_traj_breakpoints.specs.Breakpoints.{breakpoint}
 use Rattle.graph_traj_breakpoints.specs.LookupChecks.{segment_count_fault, breakpoints_fault}

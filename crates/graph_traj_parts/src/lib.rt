@@ -7,31 +7,31 @@ ghost use Rattle.graph_traj_parts.specs.Trajectory.{trajectory};
 ghost use Rattle.graph_traj_parts.specs.TrajectoryChecks.{first_breakpoint_fault, one_segment_fault};
 ghost use Rattle.graph_traj_parts.specs.TrajectoryChecks.{trajectory_fault, adjoint_trajectory_fault};
 
-use error::{Checked, Refusal};
+use error::Refusal;
 use graph_traj_breakpoints::check_breakpoints;
 use graph_traj_counts::check_segment_count;
 use graph_traj_counts::kernel::check_counts;
 use graph_traj_lists::check_lists;
 
 // Row 13 of an adjoint run: there is one segment.
-pub fn check_one_segment(segments: usize) -> Checked
+pub fn check_one_segment(segments: usize) -> Result<(), Refusal>
     ensures { result ≡ one_segment_fault segments }
 {
     if segments == 1 {
-        Checked::Accepted
+        Ok(())
     } else {
-        Checked::Refused(Refusal::SegmentCount(segments))
+        Err(Refusal::SegmentCount(segments))
     }
 }
 
 // Row 17: the first breakpoint is 0. IEEE's comparison lets -0 pass.
-pub fn check_first_breakpoint(first: f64) -> Checked
+pub fn check_first_breakpoint(first: f64) -> Result<(), Refusal>
     ensures { result ≡ first_breakpoint_fault first }
 {
     if first == 0.0 {
-        Checked::Accepted
+        Ok(())
     } else {
-        Checked::Refused(Refusal::FirstBreakpoint(first))
+        Err(Refusal::FirstBreakpoint(first))
     }
 }
 
@@ -45,33 +45,21 @@ pub fn check_trajectory(
     starts: &[f64],
     ends: &[f64],
     laws: &[u8],
-) -> Checked
+) -> Result<(), Refusal>
     ensures { result ≡ trajectory_fault (trajectory n row_ptr.now col_idx.now segments
         breakpoints.now starts.now ends.now laws.now) }
 {
-    let pattern = graph_checks::check_pattern(n, row_ptr, col_idx);
-    let Checked::Accepted = pattern else {
-        return pattern;
-    };
-    let number = check_segment_count(segments);
-    let Checked::Accepted = number else {
-        return number;
-    };
-    let counts = check_counts(
+    graph_checks::check_pattern(n, row_ptr, col_idx)?;
+    check_segment_count(segments)?;
+    check_counts(
         segments,
         col_idx.len(),
         breakpoints.len(),
         starts.len(),
         ends.len(),
         laws.len(),
-    );
-    let Checked::Accepted = counts else {
-        return counts;
-    };
-    let rising = check_breakpoints(breakpoints);
-    let Checked::Accepted = rising else {
-        return rising;
-    };
+    )?;
+    check_breakpoints(breakpoints)?;
     check_lists(laws, starts, ends)
 }
 
@@ -85,36 +73,21 @@ pub fn check_adjoint_trajectory(
     starts: &[f64],
     ends: &[f64],
     laws: &[u8],
-) -> Checked
+) -> Result<(), Refusal>
     ensures { result ≡ adjoint_trajectory_fault (trajectory n row_ptr.now col_idx.now segments
         breakpoints.now starts.now ends.now laws.now) }
 {
-    let pattern = graph_checks::check_pattern(n, row_ptr, col_idx);
-    let Checked::Accepted = pattern else {
-        return pattern;
-    };
-    let number = check_one_segment(segments);
-    let Checked::Accepted = number else {
-        return number;
-    };
-    let counts = check_counts(
+    graph_checks::check_pattern(n, row_ptr, col_idx)?;
+    check_one_segment(segments)?;
+    check_counts(
         segments,
         col_idx.len(),
         breakpoints.len(),
         starts.len(),
         ends.len(),
         laws.len(),
-    );
-    let Checked::Accepted = counts else {
-        return counts;
-    };
-    let rising = check_breakpoints(breakpoints);
-    let Checked::Accepted = rising else {
-        return rising;
-    };
-    let from_zero = check_first_breakpoint(breakpoints[0]);
-    let Checked::Accepted = from_zero else {
-        return from_zero;
-    };
+    )?;
+    check_breakpoints(breakpoints)?;
+    check_first_breakpoint(breakpoints[0])?;
     check_lists(laws, starts, ends)
 }

@@ -17,8 +17,8 @@ use Rattle.scratch.proofs.Parts.{get_d_part}
 use Rattle.scratch.proofs.Writing.{Written, written_none, written_all}
 use Rattle.error.specs.Checks.{next}
 use Rattle.error.specs.declared.Refusal.{Refusal}
-use Rattle.error.specs.declared.Checked.{Checked}
-use Rattle.error.specs.declared.Checked.TheVariants.{Accepted, Refused}
+use Rattle.error.specs.Answer.{Checked}
+use Rattle.error.specs.Answer.{Accepted, Refused}
 use Rattle.error.proofs.Checks.{accepted-then}
 use Rattle.graph_checks.specs.First.{refuse_first}
 use Rattle.graph_checks.proofs.First.{Passed, passed-more, passed-found, refuses-first, accepts-none}

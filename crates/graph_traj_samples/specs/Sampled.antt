@@ -3,7 +3,7 @@ use Rattle.std.specs.Prelude.{List, ℕ, length, get_or, Float}
 use Rattle.std.specs.Float.{nan, binary64}
 use Rattle.arithmetic.specs.Arithmetic.{ieee, at}
 use Rattle.error.specs.declared.Refusal.TheVariants.{SampledValue}
-use Rattle.error.specs.declared.Checked.{Checked}
+use Rattle.error.specs.Answer.{Checked}
 use Rattle.graph_checks.specs.First.{refuse_first}
 use Rattle.graph_checks.specs.PatternChecks.{not_finite_at}
 use Rattle.graph_pairs.specs.Pairs.{pairs}

@@ -8,7 +8,7 @@ ghost use Rattle.error.specs.Checks.{next};
 ghost use Rattle.graph_traj_laws.specs.Laws.{law_values};
 ghost use Rattle.graph_traj_samples.specs.Sampled.{sampled_fault, law_pairs};
 
-use error::{Checked, Refusal};
+use error::Refusal;
 use graph_traj_laws::kernel::law_value;
 
 // The m pairs at `at` become the values of law 2 at two fractions of the way through segment k. It tells whether all of them are finite; the
@@ -44,7 +44,7 @@ fn sample_pairs(
 }
 
 // Row 20 of one sample: a walk to the first value that is not finite.
-fn check_sample(starts: &[f64], ends: &[f64], k: usize, m: usize, fraction: f64) -> Checked
+fn check_sample(starts: &[f64], ends: &[f64], k: usize, m: usize, fraction: f64) -> Result<(), Refusal>
     requires { (k ≤ 65535) × (m ≤ 65535) × (k * m + m ≤ length starts.now) × (k * m + m ≤ length ends.now) }
     ensures { let values = law_values m fraction (part (k * m) m starts.now) (part (k * m) m ends.now) in
         result ≡ sampled_fault values }
@@ -53,10 +53,10 @@ fn check_sample(starts: &[f64], ends: &[f64], k: usize, m: usize, fraction: f64)
     for i in 0..m {
         let value = law_value(fraction, starts[from + i], ends[from + i]);
         if !float::is_finite(value) {
-            return Checked::Refused(Refusal::SampledValue(value));
+            return Err(Refusal::SampledValue(value));
         }
     }
-    Checked::Accepted
+    Ok(())
 }
 
 // Both samples of a step in segment k, to the m pairs at `at`, and row 20 of the first and then of the second. Accepted samples cost one
@@ -70,7 +70,7 @@ pub fn sample(
     fraction2: f64,
     work: &mut [f64],
     at: usize,
-) -> Checked
+) -> Result<(), Refusal>
     requires k_bound { (k ≤ 65535) × (m ≤ 65535) × (k * m + m ≤ length starts.now) × (k * m + m ≤ length ends.now) }
     requires m_in_bounds { at + 2 * m ≤ length work.old }
     ensures { let s = part (k * m) m starts.now in
@@ -79,11 +79,8 @@ pub fn sample(
         × (work.new ≡ put at (law_pairs m fraction1 fraction2 s e) work.old) }
 {
     if sample_pairs(starts, ends, k, m, fraction1, fraction2, work, at) {
-        return Checked::Accepted;
+        return Ok(());
     }
-    let first = check_sample(starts, ends, k, m, fraction1);
-    let Checked::Accepted = first else {
-        return first;
-    };
+    check_sample(starts, ends, k, m, fraction1)?;
     check_sample(starts, ends, k, m, fraction2)
 }

@@ -8,7 +8,7 @@ ghost use Rattle.varcoef_magnus_graph_faults.specs.WeightedStepChecks.{sample_we
 ghost use Rattle.graph_traj_laws.specs.Laws.{law_values};
 ghost use Rattle.graph_traj_samples.specs.Sampled.{law_pairs};
 
-use error::{Checked, Refusal};
+use error::Refusal;
 use graph_traj_laws::kernel::law_value;
 use magnus_graph_checks::is_positive;
 
@@ -42,7 +42,7 @@ fn weight_pairs(
 }
 
 // Row 11 of the weights of one sample: a walk to the first that is not finite and above 0.
-fn check_law_weights(starts: &[f64], ends: &[f64], fraction: f64) -> Checked
+fn check_law_weights(starts: &[f64], ends: &[f64], fraction: f64) -> Result<(), Refusal>
     requires { length ends.now ≡ length starts.now }
     ensures { let weights = law_values (length starts.now) fraction starts.now ends.now in
         result ≡ sample_weights_fault weights }
@@ -50,10 +50,10 @@ fn check_law_weights(starts: &[f64], ends: &[f64], fraction: f64) -> Checked
     for i in 0..starts.len() {
         let weight = law_value(fraction, starts[i], ends[i]);
         if !is_positive(weight) {
-            return Checked::Refused(Refusal::Weight(weight));
+            return Err(Refusal::Weight(weight));
         }
     }
-    Checked::Accepted
+    Ok(())
 }
 
 // The weights of both samples, to the pairs at `at`, and row 11 of the first sample's and then of the second's. Accepted weights cost one
@@ -65,7 +65,7 @@ pub fn sample_weights(
     fraction2: f64,
     work: &mut [f64],
     at: usize,
-) -> Checked
+) -> Result<(), Refusal>
     requires ends_len { length ends.now ≡ length starts.now }
     requires starts_in_bounds { at + 2 * length starts.now ≤ length work.old }
     ensures { let n = length starts.now in
@@ -75,11 +75,8 @@ pub fn sample_weights(
         × (work.new ≡ put at (law_pairs n fraction1 fraction2 s e) work.old) }
 {
     if weight_pairs(starts, ends, fraction1, fraction2, work, at) {
-        return Checked::Accepted;
+        return Ok(());
     }
-    let first = check_law_weights(starts, ends, fraction1);
-    let Checked::Accepted = first else {
-        return first;
-    };
+    check_law_weights(starts, ends, fraction1)?;
     check_law_weights(starts, ends, fraction2)
 }

@@ -8,7 +8,7 @@ use lib.ListN.{length, get_or}
 use lib.Ieee.{Float, nan}
 use lib.Ieee.Scale.{finite}
 use borrow.Author.Tests.{not-false}
-use Rattle.error.specs.declared.Checked.TheVariants.{Accepted}
+use Rattle.error.specs.Answer.{Accepted}
 use Rattle.graph_shape.proofs.First.{refuse_first-accepted}
 use Rattle.graph_values.specs.ValueChecks.{value_fault}
 

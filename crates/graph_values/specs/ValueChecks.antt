@@ -3,7 +3,7 @@ use Rattle.std.specs.Prelude.{Bool, not, List, ℕ, length, get_or, Float}
 use Rattle.std.specs.Float.{nan}
 use Rattle.std.specs.Float.Ieee.Scale.{finite}
 use Rattle.error.specs.declared.Refusal.TheVariants.{Value}
-use Rattle.error.specs.declared.Checked.{Checked}
+use Rattle.error.specs.Answer.{Checked}
 use Rattle.graph_shape.specs.First.{refuse_first}
 
 -- entry k's value is not finite

@@ -5,7 +5,7 @@ ghost use Rattle.graph_shape.specs.First.{first};
 ghost use Rattle.graph_shape.specs.Rows.{Rows};
 ghost use Rattle.graph_values.specs.ValueChecks.{not_finite_at, value_fault};
 
-use error::{Checked, Refusal};
+use error::Refusal;
 
 // The first entry whose value is not finite, or the number of entries, by the walk that finds the first such column.
 fn first_value_not_finite(n: usize, row_ptr: &[usize], vals: &[f64]) -> usize
@@ -26,13 +26,13 @@ fn first_value_not_finite(n: usize, row_ptr: &[usize], vals: &[f64]) -> usize
 }
 
 // Row 5: every value is finite.
-pub fn check_values(n: usize, row_ptr: &[usize], vals: &[f64]) -> Checked
+pub fn check_values(n: usize, row_ptr: &[usize], vals: &[f64]) -> Result<(), Refusal>
     requires { Rows n row_ptr.now (length vals.now) }
     ensures { result ≡ value_fault vals.now }
 {
     if float::all_finite(vals) {
-        return Checked::Accepted;
+        return Ok(());
     }
     let k = first_value_not_finite(n, row_ptr, vals);
-    Checked::Refused(Refusal::Value(vals[k]))
+    Err(Refusal::Value(vals[k]))
 }

@@ -1,7 +1,7 @@
 -- The text of an answer (01, "The job program"). Assumes nothing.
 use Rattle.std.specs.Prelude.{List, ℕ, Float}
-use Rattle.error.specs.declared.Checked.{Checked}
-use Rattle.error.specs.declared.Checked.TheVariants.{Accepted, Refused}
+use Rattle.error.specs.Answer.{Checked}
+use Rattle.error.specs.Answer.{Accepted, Refused}
 use Rattle.job_text.specs.Text.{DoneText, RefusedText}
 
 -- a text of an answer: `done` with the values where it is accepted, else `refused` with the refusal

@@ -3,17 +3,17 @@ ghost use Rattle.std.specs.Prelude.{◌≤◌, length};
 ghost use Rattle.job_text_numbers.specs.Placed.{Begins};
 ghost use Rattle.job_answer.specs.AnswerText.{AnswerText};
 
-use error::Checked;
+use error::Refusal;
 use job_text::kernel::write_done;
 use job_text::{TEXT, write_refused};
 
 // The text of an answer, and the count of its bytes. An accepted job has at most 64 values.
-pub fn write_answer(answer: Checked, values: &[f64], text: &mut [u8; TEXT]) -> usize
+pub fn write_answer(answer: Result<(), Refusal>, values: &[f64], text: &mut [u8; TEXT]) -> usize
     requires { length values.now ≤ 64 }
     ensures { Begins (AnswerText answer values.now) text.old text.new result }
 {
     match answer {
-        Checked::Accepted => write_done(values, text),
-        Checked::Refused(refusal) => write_refused(refusal, text),
+        Ok(()) => write_done(values, text),
+        Err(refusal) => write_refused(refusal, text),
     }
 }

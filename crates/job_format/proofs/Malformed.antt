@@ -9,7 +9,7 @@ use lib.ListN.{length}
 use borrow.Author.Tests.{ltb-false, lt-ltb}
 use Rattle.error.specs.Refusals.{Answers}
 use Rattle.error.specs.declared.Refusal.TheVariants.{Malformed}
-use Rattle.error.specs.declared.Checked.TheVariants.{Accepted, Refused}
+use Rattle.error.specs.Answer.{Accepted, Refused}
 use Rattle.error.proofs.Checks.{refuse_if-accepted, refuse_if-refused, refuses, accepts}
 use Rattle.error.proofs.Left.{answers}
 use Rattle.job_format.specs.JobFormat.{allowed, field_start, job_map, job_nodes, job_entries, job_field, malformed, malformed_fault}

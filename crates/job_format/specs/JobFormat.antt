@@ -5,7 +5,7 @@ use Rattle.std.specs.Float.Ieee.{of_bits}
 use Rattle.arithmetic.specs.Vector.{tabulate}
 use Rattle.error.specs.Checks.{refuse_if}
 use Rattle.error.specs.declared.Refusal.TheVariants.{Malformed}
-use Rattle.error.specs.declared.Checked.{Checked}
+use Rattle.error.specs.Answer.{Checked}
 use Rattle.little_endian.specs.LittleEndian.{little_endian}
 -- the map: whether a bit of it stands, the bits that no job lacks, whether it is allowed
 unfoldable pub use Rattle.job_checks.specs.Map.{stands, required, allowed}

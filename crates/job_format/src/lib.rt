@@ -4,7 +4,7 @@
 ghost use Rattle.error.specs.Refusals.{Answers};
 ghost use Rattle.job_format.specs.JobFormat.{malformed_fault};
 
-use error::{Checked, Refusal};
+use error::Refusal;
 use job_checks::{MOST_BYTES, byte_count, is_allowed};
 use kernel::{field_start, head_of};
 
@@ -16,7 +16,7 @@ const MOST_NODES: usize = 64;
 const MOST_ENTRIES: usize = 512;
 
 // Row 21: whether the bytes are those of a job.
-pub fn check_job(job: &[u8]) -> Checked
+pub fn check_job(job: &[u8]) -> Result<(), Refusal>
     ensures { Answers result (malformed_fault job.now) }
 {
     let bytes = job.len();
@@ -28,7 +28,7 @@ pub fn check_job(job: &[u8]) -> Checked
             | (!map
                 | ((MOST_NODES < head.nodes) | ((MOST_ENTRIES < head.entries) | (bytes != end)))));
     if malformed {
-        return Checked::Refused(Refusal::Malformed(byte_count(bytes)));
+        return Err(Refusal::Malformed(byte_count(bytes)));
     }
-    Checked::Accepted
+    Ok(())
 }

@@ -9,7 +9,7 @@ use Rattle.arithmetic.specs.Product.{sum_to, entries, row_sum}
 use Rattle.error.specs.Checks.{refuse_if, refuse_unequal, next, if_accepted}
 use Rattle.error.specs.Lengths.{length_fault}
 use Rattle.error.specs.Refusals.{count, answer_of}
-use Rattle.error.specs.declared.Checked.TheVariants.{Accepted}
+use Rattle.error.specs.Answer.{Accepted}
 use Rattle.graph_checks.specs.First.{first, refuse_first}
 use Rattle.graph_checks.specs.PatternChecks.{size_fault, row_start_count_fault, row_starts_fault, entry_count_fault, column_fault, value_fault}
 use Rattle.graph_checks.specs.PatternChecks.{shape_fault, pattern_fault, csr_fault}

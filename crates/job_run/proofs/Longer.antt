@@ -8,8 +8,8 @@ use native.Mathlib.Omega.{arith}
 use lib.ListN.{length, take}
 use lib.Seq.{length-take-le}
 use Rattle.error.specs.declared.Refusal.TheVariants.{Malformed}
-use Rattle.error.specs.declared.Checked.{Checked}
-use Rattle.error.specs.declared.Checked.TheVariants.{Refused}
+use Rattle.error.specs.Answer.{Checked}
+use Rattle.error.specs.Answer.{Refused}
 use Rattle.error.proofs.Checks.{next-refused}
 use Rattle.job_text.specs.Text.{RefusedText}
 use Rattle.job_format.proofs.Malformed.{longer-refused}

@@ -10,7 +10,7 @@ ghost use Rattle.job_step.specs.JobOutcome.{job_step_answer, job_step_output};
 ghost use Rattle.job_answer.specs.AnswerText.{AnswerText};
 ghost use Rattle.job_run.specs.JobText.{JobText};
 
-use error::Checked;
+use error::Refusal;
 use job_answer::kernel::write_answer;
 use job_format::check_job;
 use job_format::kernel::head_of;
@@ -45,7 +45,7 @@ pub fn run_job(job: &[u8], text: &mut [u8; TEXT]) -> usize
 {
     let checked = check_job(job);
     match checked {
-        Checked::Accepted => run_step(job, text),
-        Checked::Refused(refusal) => write_refused(refusal, text),
+        Ok(()) => run_step(job, text),
+        Err(refusal) => write_refused(refusal, text),
     }
 }

@@ -8,7 +8,7 @@ ghost use Rattle.job_format.specs.JobFormat.{job_nodes, job_row_starts, job_colu
 ghost use Rattle.job_step.specs.JobOutcome.{job_sign, job_step, job_weighted_step, job_step6, job_step_answer, job_step_output};
 ghost use Rattle.job_step.specs.Stepped.{Small, Fields, Numbers as NumbersOf, Taken};
 
-use error::Checked;
+use error::Refusal;
 use job_fields::kernel::{
     read_columns, read_row_starts, read_signal, read_values, read_weights1, read_weights2,
 };
@@ -80,7 +80,7 @@ fn step6(
     vals2: &[f64],
     src: &[f64],
     dst: &mut [f64],
-) -> Checked
+) -> Result<(), Refusal>
     requires small { Small job.now }
     requires fields { Fields (job_of job.now) row_ptr.now col_idx.now vals1.now vals2.now src.now }
     requires dst_value { dst.old ≡ zeros (job_nodes job.now) }
@@ -130,7 +130,7 @@ fn weighted_step_with(
     a2: &[f64],
     src: &[f64],
     dst: &mut [f64],
-) -> Checked
+) -> Result<(), Refusal>
     requires small { Small job.now }
     requires fields { Fields (job_of job.now) row_ptr.now col_idx.now vals1.now vals2.now src.now }
     requires dst_value { dst.old ≡ zeros (job_nodes job.now) }
@@ -194,7 +194,7 @@ fn weighted_step(
     vals2: &[f64],
     src: &[f64],
     dst: &mut [f64],
-) -> Checked
+) -> Result<(), Refusal>
     requires small { Small job.now }
     requires fields { Fields (job_of job.now) row_ptr.now col_idx.now vals1.now vals2.now src.now }
     requires dst_value { dst.old ≡ zeros (job_nodes job.now) }
@@ -220,7 +220,7 @@ fn unweighted_step(
     vals2: &[f64],
     src: &[f64],
     dst: &mut [f64],
-) -> Checked
+) -> Result<(), Refusal>
     requires small { Small job.now }
     requires fields { Fields (job_of job.now) row_ptr.now col_idx.now vals1.now vals2.now src.now }
     requires dst_value { dst.old ≡ zeros (job_nodes job.now) }
@@ -277,7 +277,7 @@ fn selected_step(
     vals2: &[f64],
     src: &[f64],
     dst: &mut [f64],
-) -> Checked
+) -> Result<(), Refusal>
     requires small { Small job.now }
     requires fields { Fields (job_of job.now) row_ptr.now col_idx.now vals1.now vals2.now src.now }
     requires dst_value { dst.old ≡ zeros (job_nodes job.now) }
@@ -294,7 +294,7 @@ fn selected_step(
 }
 
 // The step of a job, with the samples that it has read.
-fn step_with_pattern(job: &[u8], row_ptr: &[usize], col_idx: &[u32], dst: &mut [f64]) -> Checked
+fn step_with_pattern(job: &[u8], row_ptr: &[usize], col_idx: &[u32], dst: &mut [f64]) -> Result<(), Refusal>
     requires small { Small job.now }
     requires row_ptr_value { (row_ptr.now ≡ job_row_starts job.now) × (col_idx.now ≡ job_columns job.now) }
     requires dst_value { dst.old ≡ zeros (job_nodes job.now) }
@@ -317,7 +317,7 @@ fn step_with_pattern(job: &[u8], row_ptr: &[usize], col_idx: &[u32], dst: &mut [
 }
 
 // The step of a job: dst becomes its output.
-pub fn step(job: &[u8], dst: &mut [f64]) -> Checked
+pub fn step(job: &[u8], dst: &mut [f64]) -> Result<(), Refusal>
     requires small { Small job.now }
     requires dst_value { dst.old ≡ zeros (job_nodes job.now) }
     ensures { let job = job_of job.entry.now in

@@ -5,7 +5,7 @@ use mathlib.Core.List.{List}
 use Prim.Native.Nat.{ℕ, ◌*◌}
 use lib.Ieee.{Float}
 use Rattle.scratch.specs.Parts.{zeros}
-use Rattle.error.specs.declared.Checked.{Checked}
+use Rattle.error.specs.Answer.{Checked}
 use Rattle.magnus_graph_faults.specs.StepChecks.{Sample, sample}
 use Rattle.magnus_graph_outcome.specs.StepOutcome.{StepInput, step_input, Stepped, step_answer, step_output, forward, adjoint}
 use Rattle.varcoef_magnus_graph_outcome.specs.StepOutcome.{StepInput as WeightedInput, step_input as weighted_input, Stepped as WeightedStepped}

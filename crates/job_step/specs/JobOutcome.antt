@@ -2,7 +2,7 @@
 use Rattle.std.specs.Prelude.{cond, List, ℕ, ◌*◌, Float}
 use Rattle.scratch.specs.Parts.{zeros}
 use Rattle.error.specs.Checks.{next}
-use Rattle.error.specs.declared.Checked.{Checked}
+use Rattle.error.specs.Answer.{Checked}
 use Rattle.magnus_graph_faults.specs.StepChecks.{Sample, sample}
 use Rattle.magnus_graph_outcome.specs.StepOutcome.{StepInput, step_input, step_answer, step_output, forward, adjoint}
 use Rattle.varcoef_magnus_graph_outcome.specs.StepOutcome.{StepInput as WeightedInput, step_input as weighted_input}

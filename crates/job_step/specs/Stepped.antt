@@ -1,7 +1,7 @@
 -- What the contracts of the job's steps cite. Assumes nothing.
 use Rattle.std.specs.Prelude.{◌≡◌, Bool, List, ℕ, ◌≤◌, Float}
 use Rattle.error.specs.Refusals.{Answers}
-use Rattle.error.specs.declared.Checked.{Checked}
+use Rattle.error.specs.Answer.{Checked}
 use Rattle.job_format.specs.JobFormat.{Job, job_nodes, job_entries}
 
 -- a job that the program's arrays have room for

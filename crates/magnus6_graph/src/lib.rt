@@ -5,7 +5,7 @@
 ghost use Rattle.magnus_graph_faults.specs.StepChecks.{sample};
 ghost use Rattle.magnus6_graph_outcome.specs.StepOutcome.{step6_input, Stepped6};
 
-use error::Checked;
+use error::Refusal;
 use magnus6_graph_checks::check_step6;
 use magnus6_graph_helpers::kernel::step6;
 
@@ -31,7 +31,7 @@ pub fn apply_exp_omega6_kernel(
     src: &[f64],
     dst: &mut [f64],
     work: &mut [f64],
-) -> Checked
+) -> Result<(), Refusal>
     ensures { Stepped6 (step6_input
         (sample n1 row_ptr1.now col_idx1.now vals1.now)
         (sample n2 row_ptr2.now col_idx2.now vals2.now)
@@ -59,12 +59,12 @@ pub fn apply_exp_omega6_kernel(
         dst.len(),
         work.len(),
     );
-    let Checked::Accepted = checked else {
+    let Ok(()) = checked else {
         return checked;
     };
     step6(
         row_ptr1, col_idx1, vals1, row_ptr2, col_idx2, vals2, row_ptr3, col_idx3, vals3, tau, src,
         dst, work,
     );
-    Checked::Accepted
+    Ok(())
 }

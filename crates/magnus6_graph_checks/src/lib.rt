@@ -6,7 +6,7 @@ ghost use Rattle.std.specs.Prelude.{◌≡◌};
 ghost use Rattle.magnus_graph_faults.specs.StepChecks.{sample};
 ghost use Rattle.magnus6_graph_faults.specs.Step6Checks.{samples6_fault, lengths6_fault, step6_fault};
 
-use error::{Checked, check_length};
+use error::{Refusal, check_length};
 use magnus_graph_checks::{check_bound, check_lengths, check_room, check_step_length};
 use magnus_graph_step_checks::check_samples;
 
@@ -24,16 +24,13 @@ pub fn check_samples6(
     row_ptr3: &[usize],
     col_idx3: &[u32],
     vals3: &[f64],
-) -> Checked
+) -> Result<(), Refusal>
     ensures { result ≡ samples6_fault
         (sample n1 row_ptr1.now col_idx1.now vals1.now)
         (sample n2 row_ptr2.now col_idx2.now vals2.now)
         (sample n3 row_ptr3.now col_idx3.now vals3.now) }
 {
-    let two = check_samples(n1, row_ptr1, col_idx1, vals1, n2, row_ptr2, col_idx2, vals2);
-    let Checked::Accepted = two else {
-        return two;
-    };
+    check_samples(n1, row_ptr1, col_idx1, vals1, n2, row_ptr2, col_idx2, vals2)?;
     graph_checks::from_csr_parts(n3, row_ptr3, col_idx3, vals3)
 }
 
@@ -44,13 +41,10 @@ pub fn check_lengths6(
     third: usize,
     signal: usize,
     output: usize,
-) -> Checked
+) -> Result<(), Refusal>
     ensures { result ≡ lengths6_fault n second third signal output }
 {
-    let nodes = check_length(second, n);
-    let Checked::Accepted = nodes else {
-        return nodes;
-    };
+    check_length(second, n)?;
     check_lengths(n, third, signal, output)
 }
 
@@ -74,30 +68,18 @@ pub fn check_step6(
     signal: usize,
     output: usize,
     work: usize,
-) -> Checked
+) -> Result<(), Refusal>
     ensures { result ≡ step6_fault
         (sample n1 row_ptr1.now col_idx1.now vals1.now)
         (sample n2 row_ptr2.now col_idx2.now vals2.now)
         (sample n3 row_ptr3.now col_idx3.now vals3.now)
         tau rho_bar_max radius_check signal output work }
 {
-    let samples = check_samples6(
+    check_samples6(
         n1, row_ptr1, col_idx1, vals1, n2, row_ptr2, col_idx2, vals2, n3, row_ptr3, col_idx3, vals3,
-    );
-    let Checked::Accepted = samples else {
-        return samples;
-    };
-    let bound = check_bound(rho_bar_max);
-    let Checked::Accepted = bound else {
-        return bound;
-    };
-    let step_length = check_step_length(tau, rho_bar_max, radius_check);
-    let Checked::Accepted = step_length else {
-        return step_length;
-    };
-    let lengths = check_lengths6(n1, n2, n3, signal, output);
-    let Checked::Accepted = lengths else {
-        return lengths;
-    };
+    )?;
+    check_bound(rho_bar_max)?;
+    check_step_length(tau, rho_bar_max, radius_check)?;
+    check_lengths6(n1, n2, n3, signal, output)?;
     check_room(work, 22 * n1)
 }

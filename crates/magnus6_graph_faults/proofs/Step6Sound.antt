@@ -5,8 +5,8 @@ use mathlib.Core.Logic.{◌↔◌}
 use mathlib.Core.Bool.{Bool}
 use Prim.Native.Nat.{ℕ, ◌*◌, ◌≤◌}
 use lib.Ieee.{Float}
-use Rattle.error.specs.declared.Checked.{Checked}
-use Rattle.error.specs.declared.Checked.TheVariants.{Accepted}
+use Rattle.error.specs.Answer.{Checked}
+use Rattle.error.specs.Answer.{Accepted}
 use Rattle.error.proofs.Checks.{length-accepted}
 use Rattle.graph_checks.specs.Pattern.{Laplacian}
 use Rattle.magnus_graph_faults.specs.StepChecks.{Sample}

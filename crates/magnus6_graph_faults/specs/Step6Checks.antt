@@ -2,7 +2,7 @@
 use Rattle.std.specs.Prelude.{Bool, ℕ, ◌*◌ as ◌*ℕ◌, Float}
 use Rattle.error.specs.Checks.{next}
 use Rattle.error.specs.Lengths.{length_fault}
-use Rattle.error.specs.declared.Checked.{Checked}
+use Rattle.error.specs.Answer.{Checked}
 use Rattle.magnus_graph_faults.specs.StepChecks.{Sample, sample_fault, samples_fault, bound_fault, step_length_fault}
 use Rattle.magnus_graph_faults.specs.StepChecks.{lengths_fault, room_fault}
 

@@ -5,7 +5,7 @@
 ghost use Rattle.magnus_graph_faults.specs.StepChecks.{sample};
 ghost use Rattle.magnus_graph_outcome.specs.StepOutcome.{step_input, Stepped, forward, adjoint};
 
-use error::Checked;
+use error::Refusal;
 use magnus_graph_step::kernel::step4;
 use magnus_graph_step_checks::check_step;
 
@@ -29,7 +29,7 @@ pub fn apply_exp_omega4_kernel(
     src: &[f64],
     dst: &mut [f64],
     work: &mut [f64],
-) -> Checked
+) -> Result<(), Refusal>
     ensures { Stepped forward (step_input
         (sample n1 row_ptr1.now col_idx1.now vals1.now)
         (sample n2 row_ptr2.now col_idx2.now vals2.now)
@@ -71,7 +71,7 @@ pub fn apply_exp_omega4_adj_kernel(
     src: &[f64],
     dst: &mut [f64],
     work: &mut [f64],
-) -> Checked
+) -> Result<(), Refusal>
     ensures { Stepped adjoint (step_input
         (sample n1 row_ptr1.now col_idx1.now vals1.now)
         (sample n2 row_ptr2.now col_idx2.now vals2.now)
@@ -114,7 +114,7 @@ fn step(
     src: &[f64],
     dst: &mut [f64],
     work: &mut [f64],
-) -> Checked
+) -> Result<(), Refusal>
     ensures { Stepped sign (step_input
         (sample n1 row_ptr1.now col_idx1.now vals1.now)
         (sample n2 row_ptr2.now col_idx2.now vals2.now)
@@ -137,7 +137,7 @@ fn step(
         dst.len(),
         work.len(),
     );
-    let Checked::Accepted = checked else {
+    let Ok(()) = checked else {
         return checked;
     };
     step4(
@@ -154,5 +154,5 @@ fn step(
         dst,
         work,
     );
-    Checked::Accepted
+    Ok(())
 }

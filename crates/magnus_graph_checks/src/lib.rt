@@ -7,7 +7,7 @@ ghost use Rattle.std.specs.Prelude.{◌≡◌, not};
 ghost use Rattle.magnus_graph_faults.specs.StepChecks.{not_positive, bound_fault, tau_fault, radius_fault, room_fault};
 ghost use Rattle.magnus_graph_faults.specs.StepChecks.{step_length_fault, lengths_fault};
 
-use error::{Checked, Refusal, check_length};
+use error::{Refusal, check_length};
 
 // π/2, with the bits 0x3FF921FB54442D18.
 const FRAC_PI_2: f64 = 1.5707963267948966;
@@ -20,71 +20,62 @@ pub fn is_positive(x: f64) -> bool
 }
 
 // Row 9, of one bound: it is finite and above 0.
-pub fn check_bound(bound: f64) -> Checked
+pub fn check_bound(bound: f64) -> Result<(), Refusal>
     ensures { result ≡ bound_fault bound }
 {
     if is_positive(bound) {
-        Checked::Accepted
+        Ok(())
     } else {
-        Checked::Refused(Refusal::Bound(bound))
+        Err(Refusal::Bound(bound))
     }
 }
 
 // Row 7: tau is finite and not below 0.
-pub fn check_tau(tau: f64) -> Checked
+pub fn check_tau(tau: f64) -> Result<(), Refusal>
     ensures { result ≡ tau_fault tau }
 {
     if !float::is_finite(tau) | (tau < 0.0) {
-        Checked::Refused(Refusal::Tau(tau))
+        Err(Refusal::Tau(tau))
     } else {
-        Checked::Accepted
+        Ok(())
     }
 }
 
 // Row 8: where the check is on, bound * tau is not π/2 or more.
-pub fn check_radius(radius_check: bool, tau: f64, bound: f64) -> Checked
+pub fn check_radius(radius_check: bool, tau: f64, bound: f64) -> Result<(), Refusal>
     ensures { result ≡ radius_fault radius_check tau bound }
 {
     if radius_check & (bound * tau >= FRAC_PI_2) {
-        Checked::Refused(Refusal::Radius(tau, bound))
+        Err(Refusal::Radius(tau, bound))
     } else {
-        Checked::Accepted
+        Ok(())
     }
 }
 
 // Row 10, of the work slice: it is no shorter than the need.
-pub fn check_room(work: usize, need: usize) -> Checked
+pub fn check_room(work: usize, need: usize) -> Result<(), Refusal>
     ensures { result ≡ room_fault work need }
 {
     if work < need {
-        Checked::Refused(Refusal::Length(work))
+        Err(Refusal::Length(work))
     } else {
-        Checked::Accepted
+        Ok(())
     }
 }
 
 // Rows 7 and 8.
-pub fn check_step_length(tau: f64, bound: f64, radius_check: bool) -> Checked
+pub fn check_step_length(tau: f64, bound: f64, radius_check: bool) -> Result<(), Refusal>
     ensures { result ≡ step_length_fault tau bound radius_check }
 {
-    let length = check_tau(tau);
-    let Checked::Accepted = length else {
-        return length;
-    };
+    check_tau(tau)?;
     check_radius(radius_check, tau, bound)
 }
 
 // Row 10 for the second sample's n, the signal and the output.
-pub fn check_lengths(n: usize, second: usize, signal: usize, output: usize) -> Checked
+pub fn check_lengths(n: usize, second: usize, signal: usize, output: usize) -> Result<(), Refusal>
     ensures { result ≡ lengths_fault n second signal output }
 {
-    let nodes = check_length(second, n);
-    let Checked::Accepted = nodes else {
-        return nodes;
-    };
-    let source = check_length(signal, n);
-    let Checked::Accepted = source else {
-        return source;
-    };
+    check_length(second, n)?;
+    check_length(signal, n)?;
     check_length(output, n)
 }

@@ -10,8 +10,8 @@ use lib.Ieee.Scale.{finite}
 use borrow.Author.Tests.{ltb-false, le-ltb}
 use Rattle.error.specs.Checks.{next}
 use Rattle.error.specs.declared.Refusal.{Refusal}
-use Rattle.error.specs.declared.Checked.{Checked}
-use Rattle.error.specs.declared.Checked.TheVariants.{Accepted, Refused}
+use Rattle.error.specs.Answer.{Checked}
+use Rattle.error.specs.Answer.{Accepted, Refused}
 use Rattle.error.proofs.Checks.{refuse_if-accepted, next-accepted, length-accepted}
 use Rattle.graph_checks.specs.Pattern.{Laplacian}
 use Rattle.graph_checks.proofs.Sound.{csr-accepted}

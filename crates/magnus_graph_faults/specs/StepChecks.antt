@@ -8,7 +8,7 @@ use Rattle.arithmetic.specs.Arithmetic.{ieee}
 use Rattle.error.specs.Checks.{refuse_if, next}
 use Rattle.error.specs.Lengths.{length_fault}
 use Rattle.error.specs.declared.Refusal.TheVariants.{Tau, Radius, Bound, Length}
-use Rattle.error.specs.declared.Checked.{Checked}
+use Rattle.error.specs.Answer.{Checked}
 use Rattle.graph_checks.specs.PatternChecks.{csr_fault}
 open ieee binary64 use {zero, ◌*◌}
 

@@ -10,8 +10,8 @@ use Rattle.arithmetic.specs.SameList.{SameList}
 use Rattle.arithmetic.proofs.UpToZero.{same-list-refl}
 use Rattle.scratch.specs.Parts.{put, zeros}
 use Rattle.error.specs.declared.Refusal.{Refusal}
-use Rattle.error.specs.declared.Checked.{Checked}
-use Rattle.error.specs.declared.Checked.TheVariants.{Accepted, Refused}
+use Rattle.error.specs.Answer.{Checked}
+use Rattle.error.specs.Answer.{Accepted, Refused}
 use Rattle.error.proofs.Left.{answers, answers-accepted, left-unchanged, left-written}
 use Rattle.graph_checks.specs.Pattern.{Laplacian, ValuedPattern}
 use Rattle.graph_rows.specs.RowProduct.{row_product64}

@@ -5,7 +5,7 @@
 ghost use Rattle.std.specs.Prelude.{◌≡◌};
 ghost use Rattle.magnus_graph_faults.specs.StepChecks.{sample, samples_fault, step_fault};
 
-use error::Checked;
+use error::Refusal;
 use magnus_graph_checks::{check_bound, check_lengths, check_room, check_step_length};
 
 // Rows 6 and 1 to 5 of both samples, one wholly before the next.
@@ -18,15 +18,12 @@ pub fn check_samples(
     row_ptr2: &[usize],
     col_idx2: &[u32],
     vals2: &[f64],
-) -> Checked
+) -> Result<(), Refusal>
     ensures { result ≡ samples_fault
         (sample n1 row_ptr1.now col_idx1.now vals1.now)
         (sample n2 row_ptr2.now col_idx2.now vals2.now) }
 {
-    let first = graph_checks::from_csr_parts(n1, row_ptr1, col_idx1, vals1);
-    let Checked::Accepted = first else {
-        return first;
-    };
+    graph_checks::from_csr_parts(n1, row_ptr1, col_idx1, vals1)?;
     graph_checks::from_csr_parts(n2, row_ptr2, col_idx2, vals2)
 }
 
@@ -46,27 +43,15 @@ pub fn check_step(
     signal: usize,
     output: usize,
     work: usize,
-) -> Checked
+) -> Result<(), Refusal>
     ensures { result ≡ step_fault
         (sample n1 row_ptr1.now col_idx1.now vals1.now)
         (sample n2 row_ptr2.now col_idx2.now vals2.now)
         tau rho_bar_max radius_check signal output work }
 {
-    let samples = check_samples(n1, row_ptr1, col_idx1, vals1, n2, row_ptr2, col_idx2, vals2);
-    let Checked::Accepted = samples else {
-        return samples;
-    };
-    let bound = check_bound(rho_bar_max);
-    let Checked::Accepted = bound else {
-        return bound;
-    };
-    let step_length = check_step_length(tau, rho_bar_max, radius_check);
-    let Checked::Accepted = step_length else {
-        return step_length;
-    };
-    let lengths = check_lengths(n1, n2, signal, output);
-    let Checked::Accepted = lengths else {
-        return lengths;
-    };
+    check_samples(n1, row_ptr1, col_idx1, vals1, n2, row_ptr2, col_idx2, vals2)?;
+    check_bound(rho_bar_max)?;
+    check_step_length(tau, rho_bar_max, radius_check)?;
+    check_lengths(n1, n2, signal, output)?;
     check_room(work, 5 * n1)
 }

@@ -4,7 +4,7 @@
 ghost use Rattle.graph_traj_parts.specs.Trajectory.{trajectory};
 ghost use Rattle.magnus_graph_traj_outcome.specs.RunOutcome.{forward_run, adjoint_run, Ran};
 
-use error::Checked;
+use error::Refusal;
 use graph_traj_adjoint_checks::check_adjoint_run;
 use graph_traj_checks::check::check_run;
 use magnus_graph_traj_adjoint_run::kernel::run_adjoint_steps;
@@ -30,7 +30,7 @@ pub fn evolve_with_traj_into<'a>(
     src: &[f64],
     dst: &mut [f64],
     work: &mut [f64],
-) -> Checked
+) -> Result<(), Refusal>
     ensures { Ran (forward_run (trajectory n row_ptr.now col_idx.now segments
         breakpoints.now starts.now ends.now laws.now)
         steps rho_bar_max convergence_radius_check src.now dst.old work.old)
@@ -52,7 +52,7 @@ pub fn evolve_with_traj_into<'a>(
         dst.len(),
         work.len(),
     );
-    let Checked::Accepted = checked else {
+    let Ok(()) = checked else {
         return checked;
     };
     let need = 7 * n + 2 * col_idx.len();
@@ -92,7 +92,7 @@ pub fn evolve_state_adjoint_into<'a>(
     src: &[f64],
     dst: &mut [f64],
     work: &mut [f64],
-) -> Checked
+) -> Result<(), Refusal>
     ensures { Ran (adjoint_run (trajectory n row_ptr.now col_idx.now segments
         breakpoints.now starts.now ends.now laws.now)
         tau steps rho_bar_max convergence_radius_check src.now dst.old work.old)
@@ -115,12 +115,12 @@ pub fn evolve_state_adjoint_into<'a>(
         dst.len(),
         work.len(),
     );
-    let Checked::Accepted = checked else {
+    let Ok(()) = checked else {
         return checked;
     };
     if steps == 0 {
         store(src, 0, dst);
-        return Checked::Accepted;
+        return Ok(());
     }
     let need = 7 * n + 2 * col_idx.len();
     load(work, 0, src);

@@ -7,7 +7,7 @@ ghost use Rattle.magnus_graph_outcome.specs.StepOutcome.{adjoint};
 ghost use Rattle.magnus_graph_traj_steps.specs.RunSteps.{segment_steps, adjoint_course};
 ghost use Rattle.magnus_graph_traj_steps.specs.StepsTaken.{RunStepsTaken};
 
-use error::Checked;
+use error::Refusal;
 use graph_traj_segment::kernel::Segment;
 use magnus_graph_traj_run::kernel::step_at;
 
@@ -24,7 +24,7 @@ pub fn run_adjoint_steps<'a>(
     tau: f64,
     steps: usize,
     work: &mut [f64],
-) -> Checked
+) -> Result<(), Refusal>
     requires accepted_trajectory { AcceptedTrajectory (trajectory n row_ptr.now col_idx.now segments breakpoints.now
         starts.now ends.now laws.now) }
     requires steps_bound { (steps ≤ 65535) × (run_need (trajectory n row_ptr.now col_idx.now segments breakpoints.now
@@ -51,10 +51,10 @@ pub fn run_adjoint_steps<'a>(
             -1.0,
             work,
         );
-        let Checked::Accepted = taken else {
+        let Ok(()) = taken else {
             return taken;
         };
         segment = segment.next();
     }
-    Checked::Accepted
+    Ok(())
 }

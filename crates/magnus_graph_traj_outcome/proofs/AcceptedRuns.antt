@@ -10,8 +10,8 @@ use lib.Ieee.{Float, binary64, fits}
 use lib.Ieee.Fits.{div-fits}
 use borrow.Author.Tests.{ne_eqb}
 use Rattle.arithmetic.specs.Vector.{tabulate}
-use Rattle.error.specs.declared.Checked.{Checked}
-use Rattle.error.specs.declared.Checked.TheVariants.{Accepted}
+use Rattle.error.specs.Answer.{Checked}
+use Rattle.error.specs.Answer.{Accepted}
 use Rattle.magnus_plain_sum.specs.Agree.{OfFormat}
 use Rattle.magnus_graph_outcome.specs.StepOutcome.{forward, adjoint}
 use Rattle.graph_traj_segment.specs.Times.{segment_tau}

@@ -13,8 +13,8 @@ use Rattle.arithmetic.proofs.UpToZero.{same-list-refl}
 use Rattle.scratch.specs.Parts.{part, put, zeros}
 use Rattle.scratch.proofs.Parts.{length-put, part-of-put, drop-of-put, put-first-same}
 use Rattle.error.specs.declared.Refusal.{Refusal}
-use Rattle.error.specs.declared.Checked.{Checked}
-use Rattle.error.specs.declared.Checked.TheVariants.{Accepted, Refused}
+use Rattle.error.specs.Answer.{Checked}
+use Rattle.error.specs.Answer.{Accepted, Refused}
 use Rattle.error.specs.Checks.{if_accepted}
 use Rattle.error.proofs.Checks.{refused-here, accepted-then}
 use Rattle.error.proofs.Left.{answers, left-unchanged, left-written}

@@ -3,8 +3,8 @@
 use Rattle.std.specs.Prelude.{◌≡◌, Bool, cond, List, ℕ, T, eqb, length, Float}
 use Rattle.arithmetic.specs.SameList.{SameList}
 use Rattle.scratch.specs.Parts.{put, zeros}
-use Rattle.error.specs.declared.Checked.{Checked}
-use Rattle.error.specs.declared.Checked.TheVariants.{Accepted}
+use Rattle.error.specs.Answer.{Checked}
+use Rattle.error.specs.Answer.{Accepted}
 use Rattle.error.specs.Checks.{next, if_accepted}
 use Rattle.error.specs.Refusals.{Answers}
 use Rattle.magnus_plain_sum.specs.Formed.{FormedOperator}

@@ -1,6 +1,6 @@
 -- What one step of an unweighted run promises (01, parts 8 and 10), told by the value of its segment. Assumes nothing.
 use Rattle.std.specs.Prelude.{List, ℕ, get_or, Float}
-use Rattle.error.specs.declared.Checked.{Checked}
+use Rattle.error.specs.Answer.{Checked}
 use Rattle.graph_traj_segment.specs.declared.kernel.Segment.{Segment}
 use Rattle.graph_traj_segment.specs.Times.{fraction}
 use Rattle.graph_traj_segment.specs.Times.{c1, c2, sample_time}

@@ -8,7 +8,7 @@ ghost use Rattle.magnus_graph_traj_steps.specs.RunSteps.{segment_steps, all_step
 ghost use Rattle.magnus_graph_traj_steps.specs.StepsTaken.{RunStepsTaken};
 ghost use Rattle.magnus_graph_traj_run.specs.StepAt.{StepAt};
 
-use error::Checked;
+use error::Refusal;
 use graph_traj_segment::kernel::Segment;
 use magnus_graph_traj_step::kernel::run_step;
 
@@ -28,7 +28,7 @@ pub fn step_at<'a>(
     t_start: f64,
     sign: f64,
     work: &mut [f64],
-) -> Checked
+) -> Result<(), Refusal>
     requires accepted_trajectory { AcceptedTrajectory (trajectory n row_ptr.now col_idx.now segments breakpoints.now
         starts.now ends.now laws.now) }
     requires k_lt_segments { (k < segments) × (run_need (trajectory n row_ptr.now col_idx.now segments breakpoints.now
@@ -68,7 +68,7 @@ pub fn run_segment_steps<'a>(
     steps: usize,
     i: usize,
     work: &mut [f64],
-) -> Checked
+) -> Result<(), Refusal>
     requires accepted_trajectory { AcceptedTrajectory (trajectory n row_ptr.now col_idx.now segments breakpoints.now
         starts.now ends.now laws.now) }
     requires steps_bound { (steps ≤ 65535) × (i < segments) × (run_need (trajectory n row_ptr.now col_idx.now segments breakpoints.now
@@ -96,12 +96,12 @@ pub fn run_segment_steps<'a>(
             1.0,
             work,
         );
-        let Checked::Accepted = taken else {
+        let Ok(()) = taken else {
             return taken;
         };
         segment = segment.next();
     }
-    Checked::Accepted
+    Ok(())
 }
 
 // The steps of a forward run, segment by segment (`run_all_segments` of the Rust).
@@ -116,7 +116,7 @@ pub fn run_all_segments<'a>(
     laws: &[u8],
     steps: usize,
     work: &mut [f64],
-) -> Checked
+) -> Result<(), Refusal>
     requires accepted_trajectory { AcceptedTrajectory (trajectory n row_ptr.now col_idx.now segments breakpoints.now
         starts.now ends.now laws.now) }
     requires steps_bound { (steps ≤ 65535) × (run_need (trajectory n row_ptr.now col_idx.now segments breakpoints.now
@@ -140,9 +140,9 @@ pub fn run_all_segments<'a>(
             i,
             work,
         );
-        let Checked::Accepted = taken else {
+        let Ok(()) = taken else {
             return taken;
         };
     }
-    Checked::Accepted
+    Ok(())
 }

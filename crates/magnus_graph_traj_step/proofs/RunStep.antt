@@ -14,8 +14,8 @@ use Rattle.arithmetic.proofs.Tabulate.{length-tabulate}
 use Rattle.scratch.specs.Parts.{part, put}
 use Rattle.scratch.proofs.Parts.{Wrote, wrote, length_part, get_d_part, part-of-put-before}
 use Rattle.error.specs.declared.Refusal.{Refusal}
-use Rattle.error.specs.declared.Checked.{Checked}
-use Rattle.error.specs.declared.Checked.TheVariants.{Accepted, Refused}
+use Rattle.error.specs.Answer.{Checked}
+use Rattle.error.specs.Answer.{Accepted, Refused}
 use Rattle.error.specs.Checks.{next}
 use Rattle.error.proofs.Checks.{accepted-then}
 use Rattle.graph_rows.specs.RowProduct.{row_product64}

@@ -4,8 +4,8 @@ use Rattle.std.specs.Prelude.{◌≡◌, List, ℕ, ◌+◌, ◌*◌, ◌≤◌,
 use Rattle.std.specs.Float.{binary64}
 use Rattle.scratch.specs.Parts.{part}
 use Rattle.error.specs.Checks.{next}
-use Rattle.error.specs.declared.Checked.{Checked}
-use Rattle.error.specs.declared.Checked.TheVariants.{Accepted}
+use Rattle.error.specs.Answer.{Checked}
+use Rattle.error.specs.Answer.{Accepted}
 use Rattle.graph_rows.specs.RowProduct.{row_product64}
 use Rattle.magnus_graph_outcome.specs.Omega4.{sqrt3_over12}
 use Rattle.magnus_graph_step.specs.Omega4.{exp_omega4}

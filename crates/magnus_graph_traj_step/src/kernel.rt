@@ -6,7 +6,7 @@ ghost use Rattle.std.specs.Float.Ieee.Scale.{finite};
 ghost use Rattle.graph_checks.specs.Pattern.{Pattern};
 ghost use Rattle.magnus_graph_traj_step.specs.RunStepTaken.{RunStepTaken};
 
-use error::Checked;
+use error::Refusal;
 use graph_traj_laws::kernel::law_list;
 use graph_traj_samples::kernel::sample;
 use magnus_graph_traj_terms::kernel::{constant_taylor4, sampled_taylor4};
@@ -24,7 +24,7 @@ fn sampled_step(
     fraction2: f64,
     sign: f64,
     work: &mut [f64],
-) -> Checked
+) -> Result<(), Refusal>
     requires pattern { Pattern n row_ptr.now col_idx.now }
     requires k_bound { k ≤ 65535 }
     requires col_idx_in_bounds { (k * length col_idx.now + length col_idx.now ≤ length starts.now)
@@ -34,12 +34,9 @@ fn sampled_step(
         tau fraction1 fraction2 sign result work.old work.new }
 {
     let m = col_idx.len();
-    let sampled = sample(starts, ends, k, m, fraction1, fraction2, work, 7 * n);
-    let Checked::Accepted = sampled else {
-        return sampled;
-    };
+    sample(starts, ends, k, m, fraction1, fraction2, work, 7 * n)?;
     sampled_taylor4(row_ptr, col_idx, tau, sign, work, n);
-    Checked::Accepted
+    Ok(())
 }
 
 // One step in segment k by its law, with samples at two fractions of the way through the segment: the held signal, the vector at 0,
@@ -57,7 +54,7 @@ pub fn run_step<'a>(
     fraction2: f64,
     sign: f64,
     work: &mut [f64],
-) -> Checked
+) -> Result<(), Refusal>
     requires pattern { Pattern n row_ptr.now col_idx.now }
     requires law_bound { (law ≤ 2) × (k ≤ 65535) }
     requires col_idx_in_bounds { (k * length col_idx.now + length col_idx.now ≤ length starts.now)
@@ -75,5 +72,5 @@ pub fn run_step<'a>(
     }
     let vals = law_list(law, starts, ends, k, col_idx.len());
     constant_taylor4(row_ptr, col_idx, vals, tau, sign, work, n);
-    Checked::Accepted
+    Ok(())
 }

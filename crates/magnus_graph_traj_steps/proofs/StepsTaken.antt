@@ -12,8 +12,8 @@ use Rattle.arithmetic.specs.Vector.{tabulate}
 use Rattle.scratch.specs.Parts.{part}
 use Rattle.error.specs.Checks.{next}
 use Rattle.error.specs.declared.Refusal.{Refusal}
-use Rattle.error.specs.declared.Checked.{Checked}
-use Rattle.error.specs.declared.Checked.TheVariants.{Accepted, Refused}
+use Rattle.error.specs.Answer.{Checked}
+use Rattle.error.specs.Answer.{Accepted, Refused}
 use Rattle.error.proofs.Checks.{next-refused, next-assoc, accepted-then}
 use Rattle.magnus_plain_sum.specs.Run.{run_along}
 use Rattle.magnus_graph_faults.proofs.StepSound.{refused-not-accepted}

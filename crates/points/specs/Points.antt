@@ -5,8 +5,8 @@ use Rattle.std.specs.Float.{binary64}
 use Rattle.std.specs.Float.Ieee.{of_bits}
 use Rattle.arithmetic.specs.Arithmetic.{ieee, subtracted}
 use Rattle.error.specs.Refusals.{Carried, count, real, answer_of}
-use Rattle.error.specs.declared.Checked.{Checked}
-use Rattle.error.specs.declared.Checked.TheVariants.{Accepted, Refused}
+use Rattle.error.specs.Answer.{Checked}
+use Rattle.error.specs.Answer.{Accepted, Refused}
 use Rattle.graph.specs.ProductOutcome.{product_outcome}
 use Rattle.graph_rows.specs.RowProduct.{row_product64}
 use Rattle.graph_traj.specs.Lookup.{segment_at}

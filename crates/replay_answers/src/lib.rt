@@ -1,7 +1,7 @@
 // What a call must answer, and whether it answered that.
 #![tactic(auto)]
 
-use error::{Checked, Refusal};
+use error::Refusal;
 use float_bits::has_bits;
 use refusal_rows::{Row, row_of};
 use replay_fields::{ends_with_reals, further, number16, number64};
@@ -90,15 +90,15 @@ pub fn is_refusal(expected: Answer, refusal: Refusal) -> bool {
 }
 
 // Whether what a check, or a call that writes to a lent slice, answered is expected.
-pub fn is_checked(expected: Answer, checked: Checked) -> bool {
+pub fn is_checked(expected: Answer, checked: Result<(), Refusal>) -> bool {
     match checked {
-        Checked::Accepted => is_acceptance(expected),
-        Checked::Refused(refusal) => is_refusal(expected, refusal),
+        Ok(()) => is_acceptance(expected),
+        Err(refusal) => is_refusal(expected, refusal),
     }
 }
 
 // Whether a call answered and wrote what the case ends with from a position on: the answer, then the written slice.
-pub fn written_right(checked: Checked, written: &[f64], fields: &[u8], at: usize) -> bool {
+pub fn written_right(checked: Result<(), Refusal>, written: &[f64], fields: &[u8], at: usize) -> bool {
     is_checked(answer_at(fields, at), checked)
         && ends_with_reals(fields, after_answer(fields, at), written)
 }

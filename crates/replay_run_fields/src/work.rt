@@ -3,7 +3,7 @@ ghost use Rattle.std.specs.Prelude.{◌≤◌};
 ghost use Rattle.replay_fields.specs.Counts.{Counts};
 
 use crate::weighted_runs::is_weighted;
-use error::Checked;
+use error::Refusal;
 use replay_answers::{Answer, work_right, written_right};
 use replay_fields::{Slice, further, number64, read_reals};
 use replay_rules::{by_rules, repeat_real};
@@ -67,7 +67,7 @@ pub fn work_before(fields: &[u8], at: usize, target: &mut [f64]) -> Work
 // Whether a run answered and wrote what stands at a position, and left the work slice as it must. Each element of the work slice had the
 // bits before.
 pub fn outcome_right(
-    checked: Checked,
+    checked: Result<(), Refusal>,
     dst: &[f64],
     work: &[f64],
     cleared: usize,

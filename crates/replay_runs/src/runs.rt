@@ -2,7 +2,7 @@
 // every slice that a case of 65,536 bytes can have, or that the rules of the list give: up to 65,536 columns and segments, pools of four
 // times that, and work slices of up to 176,129 elements. A forward run has no τ, and an unweighted run has
 // no weights; neither call takes them.
-use error::Checked;
+use error::Refusal;
 use magnus_graph_traj::{evolve_state_adjoint_into, evolve_with_traj_into};
 use replay_answers::answer_at;
 use replay_fields::{further, number64};
@@ -32,7 +32,7 @@ fn evolved<'a>(
     src: &[f64],
     dst: &mut [f64],
     work: &mut [f64],
-) -> Checked {
+) -> Result<(), Refusal> {
     if is_forward(kind) {
         return evolve_with_traj_into(
             n,

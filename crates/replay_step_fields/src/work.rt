@@ -3,7 +3,7 @@ ghost use Rattle.std.specs.Prelude.{◌≤◌};
 
 use crate::order6::has_three_samples;
 use crate::weighted_steps::is_weighted;
-use error::Checked;
+use error::Refusal;
 use replay_answers::{answer_at, is_acceptance, work_right, written_right};
 use replay_fields::{further, number64};
 
@@ -60,7 +60,7 @@ fn cleared_by(kind: u64, dst: &[f64]) -> usize {
 // an output of n elements; a refused one clears nothing of the work slice.
 pub fn outcome_right(
     kind: u64,
-    checked: Checked,
+    checked: Result<(), Refusal>,
     dst: &[f64],
     work: &[f64],
     before: u64,

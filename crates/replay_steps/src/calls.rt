@@ -1,6 +1,6 @@
 // The calls: the steps of order 4 at kinds 7 (forward), 8 (adjoint), 9 (weighted forward) and 10 (weighted adjoint), and the step of order 6
 // at kind 11.
-use error::Checked;
+use error::Refusal;
 use magnus_graph::{apply_exp_omega4_adj_kernel, apply_exp_omega4_kernel};
 use magnus6_graph::apply_exp_omega6_kernel;
 use replay_step_fields::numbers::Numbers;
@@ -27,7 +27,7 @@ pub fn stepped(
     src: &[f64],
     dst: &mut [f64],
     work: &mut [f64],
-) -> Checked {
+) -> Result<(), Refusal> {
     let tau = numbers.tau;
     let rho_bar_max = numbers.rho_bar_max;
     let convergence_radius_check = numbers.convergence_radius_check;

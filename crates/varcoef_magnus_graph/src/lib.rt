@@ -6,7 +6,7 @@ ghost use Rattle.magnus_graph_outcome.specs.StepOutcome.{forward, adjoint};
 ghost use Rattle.magnus_graph_faults.specs.StepChecks.{sample};
 ghost use Rattle.varcoef_magnus_graph_outcome.specs.StepOutcome.{step_input, Stepped};
 
-use error::Checked;
+use error::Refusal;
 use varcoef_magnus_graph_step::kernel::step4_la;
 use varcoef_magnus_graph_step_checks::check_weighted_step;
 
@@ -34,7 +34,7 @@ pub fn apply_exp_omega4_la_kernel(
     src: &[f64],
     dst: &mut [f64],
     work: &mut [f64],
-) -> Checked
+) -> Result<(), Refusal>
     ensures { Stepped forward (step_input
         (sample n1 row_ptr1.now col_idx1.now vals1.now)
         (sample n2 row_ptr2.now col_idx2.now vals2.now)
@@ -83,7 +83,7 @@ pub fn apply_exp_omega4_la_adj_kernel(
     src: &[f64],
     dst: &mut [f64],
     work: &mut [f64],
-) -> Checked
+) -> Result<(), Refusal>
     ensures { Stepped adjoint (step_input
         (sample n1 row_ptr1.now col_idx1.now vals1.now)
         (sample n2 row_ptr2.now col_idx2.now vals2.now)
@@ -133,7 +133,7 @@ fn step(
     src: &[f64],
     dst: &mut [f64],
     work: &mut [f64],
-) -> Checked
+) -> Result<(), Refusal>
     ensures { Stepped sign (step_input
         (sample n1 row_ptr1.now col_idx1.now vals1.now)
         (sample n2 row_ptr2.now col_idx2.now vals2.now)
@@ -160,7 +160,7 @@ fn step(
         a2,
         work.len(),
     );
-    let Checked::Accepted = checked else {
+    let Ok(()) = checked else {
         return checked;
     };
     step4_la(
@@ -179,5 +179,5 @@ fn step(
         dst,
         work,
     );
-    Checked::Accepted
+    Ok(())
 }

@@ -5,7 +5,7 @@ ghost use Rattle.graph_traj_parts.specs.Trajectory.{trajectory};
 ghost use Rattle.magnus_graph_traj_outcome.specs.RunOutcome.{Ran};
 ghost use Rattle.varcoef_magnus_graph_adjoint.specs.WeightedRunOutcome.{weighted_adjoint_run};
 
-use error::Checked;
+use error::Refusal;
 use magnus_graph_traj_finish::kernel::finish_run;
 use scratch::kernel::{load, store};
 use varcoef_magnus_graph_adjoint_checks::check_weighted_adjoint_run;
@@ -34,7 +34,7 @@ pub fn evolve_state_adjoint_into<'a>(
     src: &[f64],
     dst: &mut [f64],
     work: &mut [f64],
-) -> Checked
+) -> Result<(), Refusal>
     ensures { Ran (weighted_adjoint_run (trajectory n row_ptr.now col_idx.now segments
         breakpoints.now starts.now ends.now laws.now)
         tau steps rho_bar_max a_sup_max convergence_radius_check a_starts.now a_ends.now
@@ -61,12 +61,12 @@ pub fn evolve_state_adjoint_into<'a>(
         a_ends.len(),
         work.len(),
     );
-    let Checked::Accepted = checked else {
+    let Ok(()) = checked else {
         return checked;
     };
     if steps == 0 {
         store(src, 0, dst);
-        return Checked::Accepted;
+        return Ok(());
     }
     let need = 11 * n + 2 * col_idx.len();
     load(work, 0, src);

@@ -7,7 +7,7 @@ ghost use Rattle.graph_traj_parts.specs.Trajectory.{trajectory};
 ghost use Rattle.graph_traj_adjoint_faults.specs.AdjointRunChecks.{weighted_run_lengths_fault};
 ghost use Rattle.graph_traj_adjoint_faults.specs.AdjointRunChecks.{weighted_adjoint_run_fault};
 
-use error::Checked;
+use error::Refusal;
 use graph_traj_adjoint_checks::check_adjoint_steps;
 use graph_traj_checks::check::check_signals;
 use graph_traj_parts::check_adjoint_trajectory;
@@ -23,17 +23,11 @@ pub fn check_weighted_run_lengths(
     ends: usize,
     work: usize,
     need: usize,
-) -> Checked
+) -> Result<(), Refusal>
     ensures { result ≡ weighted_run_lengths_fault n signal output starts ends work need }
 {
-    let signals = check_signals(n, signal, output);
-    let Checked::Accepted = signals else {
-        return signals;
-    };
-    let weights = check_weights_length(n, starts, ends);
-    let Checked::Accepted = weights else {
-        return weights;
-    };
+    check_signals(n, signal, output)?;
+    check_weights_length(n, starts, ends)?;
     check_room(work, need)
 }
 
@@ -57,12 +51,12 @@ pub fn check_weighted_adjoint_run(
     a_starts: usize,
     a_ends: usize,
     work: usize,
-) -> Checked
+) -> Result<(), Refusal>
     ensures { result ≡ weighted_adjoint_run_fault (trajectory n row_ptr.now col_idx.now segments
         breakpoints.now starts.now ends.now laws.now)
         tau steps rho_bar_max a_sup_max radius_check signal output a_starts a_ends work }
 {
-    let along = check_adjoint_trajectory(
+    check_adjoint_trajectory(
         n,
         row_ptr,
         col_idx,
@@ -71,26 +65,17 @@ pub fn check_weighted_adjoint_run(
         starts,
         ends,
         laws,
-    );
-    let Checked::Accepted = along else {
-        return along;
-    };
-    let bounds = check_weighted_bounds(rho_bar_max, a_sup_max, n);
-    let Checked::Accepted = bounds else {
-        return bounds;
-    };
+    )?;
+    check_weighted_bounds(rho_bar_max, a_sup_max, n)?;
     if steps == 0 {
         return check_signals(n, signal, output);
     }
-    let walk = check_adjoint_steps(
+    check_adjoint_steps(
         steps,
         tau,
         rho_bar_max * a_sup_max * a_sup_max,
         radius_check,
-    );
-    let Checked::Accepted = walk else {
-        return walk;
-    };
+    )?;
     let need = 11 * n + 2 * col_idx.len();
     check_weighted_run_lengths(n, signal, output, a_starts, a_ends, work, need)
 }

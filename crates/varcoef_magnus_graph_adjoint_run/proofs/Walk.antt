@@ -15,8 +15,8 @@ use Rattle.scratch.proofs.Parts.{part-of-put, part-of-put-before}
 use Rattle.ieee_square_root.specs.SquareRoot.{square_root}
 use Rattle.error.specs.Checks.{next}
 use Rattle.error.specs.declared.Refusal.{Refusal}
-use Rattle.error.specs.declared.Checked.{Checked}
-use Rattle.error.specs.declared.Checked.TheVariants.{Accepted, Refused}
+use Rattle.error.specs.Answer.{Checked}
+use Rattle.error.specs.Answer.{Accepted, Refused}
 use Rattle.graph_rows.specs.RowProduct.{row_product64}
 use Rattle.magnus_plain_sum.specs.Run.{run_along}
 use Rattle.magnus.specs.Operators.{taylor}

@@ -14,7 +14,7 @@ ghost use Rattle.magnus_graph_traj_steps.specs.StepsTaken.{StepsTaken};
 ghost use Rattle.varcoef_magnus_graph_traj_steps.specs.SampledSteps.{sampled_step_fault, sampled_step_image};
 ghost use Rattle.varcoef_magnus_graph_traj_steps.specs.WeightedRunSteps.{weighted_run_step_fault, weighted_run_step_image};
 
-use error::Checked;
+use error::Refusal;
 use graph_traj_laws::kernel::law_list;
 use graph_traj_segment::kernel::Segment;
 use varcoef_magnus_graph::SQRT3_OVER_12_F64;
@@ -35,7 +35,7 @@ fn sampled_step_at(
     segment: Segment,
     steps: usize,
     work: &mut [f64],
-) -> Checked
+) -> Result<(), Refusal>
     requires pattern { Pattern n row_ptr.now col_idx.now }
     requires starts_len { (length starts.now ≡ length col_idx.now) × (length ends.now ≡ length col_idx.now) }
     requires a_starts_len { (length a_starts.now ≡ n) × (length a_ends.now ≡ n) }
@@ -83,7 +83,7 @@ fn sampled_steps(
     first: Segment,
     steps: usize,
     work: &mut [f64],
-) -> Checked
+) -> Result<(), Refusal>
     requires pattern { Pattern n row_ptr.now col_idx.now }
     requires starts_len { (length starts.now ≡ length col_idx.now) × (length ends.now ≡ length col_idx.now) }
     requires a_starts_len { (length a_starts.now ≡ n) × (length a_ends.now ≡ n) }
@@ -101,12 +101,12 @@ fn sampled_steps(
         let taken = sampled_step_at(
             row_ptr, col_idx, starts, ends, a_starts, a_ends, n, segment, steps, work,
         );
-        let Checked::Accepted = taken else {
+        let Ok(()) = taken else {
             return taken;
         };
         segment = segment.next();
     }
-    Checked::Accepted
+    Ok(())
 }
 
 // All steps in a segment of law 0 or 1: both samples have the values vals and the weights a, whose roots are taken once.
@@ -119,7 +119,7 @@ fn constant_steps(
     tau: f64,
     steps: usize,
     work: &mut [f64],
-) -> Checked
+) -> Result<(), Refusal>
     requires valued_pattern { ValuedPattern n row_ptr.now col_idx.now vals.now }
     requires a_len { (length a.now ≡ n) × (0 < steps) × (steps ≤ 65535) }
     requires col_idx_in_bounds { 11 * n + 2 * length col_idx.now ≤ length work.old }
@@ -129,7 +129,7 @@ fn constant_steps(
         n (11 * n + 2 * length col_idx.now) (segment_steps 0 steps) result work.old work.new }
 {
     let positive = check_sample_weights(a);
-    let Checked::Accepted = positive else {
+    let Ok(()) = positive else {
         return positive;
     };
     load_roots(a, work, 6 * n);
@@ -145,7 +145,7 @@ fn constant_steps(
             n,
         );
     }
-    Checked::Accepted
+    Ok(())
 }
 
 // All steps of the run, by the law of its segment.
@@ -163,7 +163,7 @@ pub fn run_steps<'a>(
     a_starts: &'a [f64],
     a_ends: &'a [f64],
     work: &mut [f64],
-) -> Checked
+) -> Result<(), Refusal>
     requires accepted_adjoint_trajectory { AcceptedAdjointTrajectory (trajectory n row_ptr.now col_idx.now segments breakpoints.now
         starts.now ends.now laws.now) }
     requires a_starts_len { (length a_starts.now ≡ n) × (length a_ends.now ≡ n) }

@@ -10,31 +10,31 @@ ghost use Rattle.varcoef_magnus_graph_faults.specs.WeightedStepChecks.{no_nodes_
 ghost use Rattle.varcoef_magnus_graph_faults.specs.WeightedStepChecks.{sample_weights_fault, weighted_bounds_fault};
 ghost use Rattle.varcoef_magnus_graph_faults.specs.WeightedStepChecks.{weight_fault};
 
-use error::{Checked, Refusal};
+use error::Refusal;
 use magnus_graph_checks::{check_bound, is_positive};
 
 // Row 12, of a weighted form: there are nodes.
-pub fn check_nodes(n: usize) -> Checked
+pub fn check_nodes(n: usize) -> Result<(), Refusal>
     ensures { result ≡ no_nodes_fault n }
 {
     if n == 0 {
-        Checked::Refused(Refusal::NoNodes(0))
+        Err(Refusal::NoNodes(0))
     } else {
-        Checked::Accepted
+        Ok(())
     }
 }
 
 // Row 10, of the weights: both lists have n places. The larger length is named.
-pub fn check_weights_length(n: usize, first: usize, second: usize) -> Checked
+pub fn check_weights_length(n: usize, first: usize, second: usize) -> Result<(), Refusal>
     ensures { result ≡ weights_length_fault n first second }
 {
     if (first == n) & (second == n) {
-        return Checked::Accepted;
+        return Ok(());
     }
     if first < second {
-        Checked::Refused(Refusal::Length(second))
+        Err(Refusal::Length(second))
     } else {
-        Checked::Refused(Refusal::Length(first))
+        Err(Refusal::Length(first))
     }
 }
 
@@ -65,38 +65,29 @@ fn first_not_positive(weights: &[f64]) -> usize
 
 // Row 11, of one sample's weights: every one is finite and above 0. Accepted weights cost one walk that only finds out
 // whether there is a fault.
-pub fn check_sample_weights(weights: &[f64]) -> Checked
+pub fn check_sample_weights(weights: &[f64]) -> Result<(), Refusal>
     ensures { result ≡ sample_weights_fault weights.now }
 {
     if all_positive(weights) {
-        return Checked::Accepted;
+        return Ok(());
     }
     let k = first_not_positive(weights);
-    Checked::Refused(Refusal::Weight(weights[k]))
+    Err(Refusal::Weight(weights[k]))
 }
 
 // Row 9 for the spectral bound and the root bound, then row 12.
-pub fn check_weighted_bounds(rho_bar_max: f64, a_sup_max: f64, n: usize) -> Checked
+pub fn check_weighted_bounds(rho_bar_max: f64, a_sup_max: f64, n: usize) -> Result<(), Refusal>
     ensures { result ≡ weighted_bounds_fault rho_bar_max a_sup_max n }
 {
-    let spectral = check_bound(rho_bar_max);
-    let Checked::Accepted = spectral else {
-        return spectral;
-    };
-    let root = check_bound(a_sup_max);
-    let Checked::Accepted = root else {
-        return root;
-    };
+    check_bound(rho_bar_max)?;
+    check_bound(a_sup_max)?;
     check_nodes(n)
 }
 
 // Row 11 for both samples' weights, the first sample's wholly first.
-pub fn check_weights(a1: &[f64], a2: &[f64]) -> Checked
+pub fn check_weights(a1: &[f64], a2: &[f64]) -> Result<(), Refusal>
     ensures { result ≡ weight_fault a1.now a2.now }
 {
-    let first = check_sample_weights(a1);
-    let Checked::Accepted = first else {
-        return first;
-    };
+    check_sample_weights(a1)?;
     check_sample_weights(a2)
 }

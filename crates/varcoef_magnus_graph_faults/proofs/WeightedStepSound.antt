@@ -9,7 +9,7 @@ use native.Mathlib.Omega.{arith}
 use lib.ListN.{length, get_or}
 use lib.Ieee.{Float, nan}
 use borrow.Author.Tests.{eqb-true, eqb-false, eq-eqb, ne_eqb, not-false}
-use Rattle.error.specs.declared.Checked.TheVariants.{Accepted}
+use Rattle.error.specs.Answer.{Accepted}
 use Rattle.error.proofs.Checks.{refuse_if-accepted}
 use Rattle.graph_checks.proofs.First.{refuse_first-accepted}
 use Rattle.magnus_graph_faults.specs.StepChecks.{Sample}

@@ -5,7 +5,7 @@ use Rattle.std.specs.Float.{nan, binary64}
 use Rattle.arithmetic.specs.Arithmetic.{ieee}
 use Rattle.error.specs.Checks.{refuse_if, next}
 use Rattle.error.specs.declared.Refusal.TheVariants.{Length, Weight, NoNodes}
-use Rattle.error.specs.declared.Checked.{Checked}
+use Rattle.error.specs.Answer.{Checked}
 use Rattle.graph_checks.specs.First.{refuse_first}
 use Rattle.magnus_graph_faults.specs.StepChecks.{not_positive, bound_fault, room_fault, Sample, samples_fault, step_length_fault}
 use Rattle.magnus_graph_faults.specs.StepChecks.{lengths_fault}

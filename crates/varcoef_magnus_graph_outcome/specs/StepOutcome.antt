@@ -6,8 +6,8 @@ use Rattle.arithmetic.specs.Arithmetic.{ieee}
 use Rattle.arithmetic.specs.SameList.{SameList}
 use Rattle.scratch.specs.Parts.{put, zeros}
 use Rattle.ieee_square_root.specs.SquareRoot.{square_root}
-use Rattle.error.specs.declared.Checked.{Checked}
-use Rattle.error.specs.declared.Checked.TheVariants.{Accepted}
+use Rattle.error.specs.Answer.{Checked}
+use Rattle.error.specs.Answer.{Accepted}
 use Rattle.error.specs.Checks.{if_accepted}
 use Rattle.error.specs.Refusals.{Answers}
 use Rattle.graph_rows.specs.RowProduct.{row_product64}

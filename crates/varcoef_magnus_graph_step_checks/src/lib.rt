@@ -6,7 +6,7 @@ ghost use Rattle.std.specs.Prelude.{◌≡◌};
 ghost use Rattle.magnus_graph_faults.specs.StepChecks.{sample};
 ghost use Rattle.varcoef_magnus_graph_faults.specs.WeightedStepChecks.{weighted_step_fault};
 
-use error::Checked;
+use error::Refusal;
 use magnus_graph_checks::{check_lengths, check_room, check_step_length};
 use magnus_graph_step_checks::check_samples;
 use varcoef_magnus_graph_checks::{check_weighted_bounds, check_weights, check_weights_length};
@@ -31,35 +31,17 @@ pub fn check_weighted_step(
     a1: &[f64],
     a2: &[f64],
     work: usize,
-) -> Checked
+) -> Result<(), Refusal>
     ensures { result ≡ weighted_step_fault
         (sample n1 row_ptr1.now col_idx1.now vals1.now)
         (sample n2 row_ptr2.now col_idx2.now vals2.now)
         tau rho_bar_max a_sup_max radius_check signal output a1.now a2.now work }
 {
-    let samples = check_samples(n1, row_ptr1, col_idx1, vals1, n2, row_ptr2, col_idx2, vals2);
-    let Checked::Accepted = samples else {
-        return samples;
-    };
-    let bounds = check_weighted_bounds(rho_bar_max, a_sup_max, n1);
-    let Checked::Accepted = bounds else {
-        return bounds;
-    };
-    let step_length = check_step_length(tau, rho_bar_max * a_sup_max * a_sup_max, radius_check);
-    let Checked::Accepted = step_length else {
-        return step_length;
-    };
-    let lengths = check_lengths(n1, n2, signal, output);
-    let Checked::Accepted = lengths else {
-        return lengths;
-    };
-    let weights = check_weights_length(n1, a1.len(), a2.len());
-    let Checked::Accepted = weights else {
-        return weights;
-    };
-    let room = check_room(work, 9 * n1);
-    let Checked::Accepted = room else {
-        return room;
-    };
+    check_samples(n1, row_ptr1, col_idx1, vals1, n2, row_ptr2, col_idx2, vals2)?;
+    check_weighted_bounds(rho_bar_max, a_sup_max, n1)?;
+    check_step_length(tau, rho_bar_max * a_sup_max * a_sup_max, radius_check)?;
+    check_lengths(n1, n2, signal, output)?;
+    check_weights_length(n1, a1.len(), a2.len())?;
+    check_room(work, 9 * n1)?;
     check_weights(a1, a2)
 }

@@ -15,8 +15,8 @@ use Rattle.ieee_square_root.specs.SquareRoot.{square_root}
 use Rattle.square_roots_estimates.proofs.Roots.{roots-of}
 use Rattle.error.specs.Checks.{next}
 use Rattle.error.specs.declared.Refusal.{Refusal}
-use Rattle.error.specs.declared.Checked.{Checked}
-use Rattle.error.specs.declared.Checked.TheVariants.{Accepted, Refused}
+use Rattle.error.specs.Answer.{Checked}
+use Rattle.error.specs.Answer.{Accepted, Refused}
 use Rattle.error.proofs.Checks.{refused-here, accepted-then}
 use Rattle.graph_rows.specs.RowProduct.{row_product64}
 use Rattle.graph_pairs.specs.Pairs.{firsts, seconds}

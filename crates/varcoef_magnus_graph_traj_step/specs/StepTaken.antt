@@ -6,8 +6,8 @@ use Rattle.arithmetic.specs.Arithmetic.{ieee}
 use Rattle.scratch.specs.Parts.{part}
 use Rattle.ieee_square_root.specs.SquareRoot.{square_root}
 use Rattle.error.specs.Checks.{next}
-use Rattle.error.specs.declared.Checked.{Checked}
-use Rattle.error.specs.declared.Checked.TheVariants.{Accepted}
+use Rattle.error.specs.Answer.{Checked}
+use Rattle.error.specs.Answer.{Accepted}
 use Rattle.graph_rows.specs.RowProduct.{row_product64}
 use Rattle.magnus.specs.Operators.{weighted}
 use Rattle.magnus_graph_step.specs.Omega4.{exp_omega4}

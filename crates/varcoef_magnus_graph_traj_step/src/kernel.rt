@@ -21,7 +21,7 @@ ghost use Rattle.graph_traj_laws.specs.Laws.{law_values};
 ghost use Rattle.varcoef_magnus_graph_traj_step.specs.SignalScaled.{ScaledTermAdded, SumFormed};
 ghost use Rattle.varcoef_magnus_graph_traj_step.specs.StepTaken.{StepTaken};
 
-use error::Checked;
+use error::Refusal;
 use graph_traj_samples::kernel::sample;
 use graph_traj_weights::kernel::sample_weights;
 use magnus_graph_coefficients::kernel::reciprocal_factorial;
@@ -137,7 +137,7 @@ pub fn sampled_step(
     fraction1: f64,
     fraction2: f64,
     work: &mut [f64],
-) -> Checked
+) -> Result<(), Refusal>
     requires pattern { Pattern n row_ptr.now col_idx.now }
     requires starts_len { (length starts.now ≡ length col_idx.now) × (length ends.now ≡ length col_idx.now) }
     requires a_starts_len { (length a_starts.now ≡ n) × (length a_ends.now ≡ n) }
@@ -152,15 +152,9 @@ pub fn sampled_step(
         result work.old work.new }
 {
     let m = col_idx.len();
-    let sampled = sample(starts, ends, 0, m, fraction1, fraction2, work, 11 * n);
-    let Checked::Accepted = sampled else {
-        return sampled;
-    };
-    let weighted = sample_weights(a_starts, a_ends, fraction1, fraction2, work, 4 * n);
-    let Checked::Accepted = weighted else {
-        return weighted;
-    };
+    sample(starts, ends, 0, m, fraction1, fraction2, work, 11 * n)?;
+    sample_weights(a_starts, a_ends, fraction1, fraction2, work, 4 * n)?;
     weight_roots(work, n);
     sampled_taylor4(row_ptr, col_idx, tau, -1.0, SQRT3_OVER_12_F64, work, n);
-    Checked::Accepted
+    Ok(())
 }

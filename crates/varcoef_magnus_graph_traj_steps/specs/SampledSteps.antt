@@ -1,7 +1,7 @@
 -- The steps of a weighted adjoint run in a segment of law 2, told by the lists of its values and of its weights (01, parts 7, 8 and 10).
 -- Assumes nothing.
 use Rattle.std.specs.Prelude.{List, ℕ, length, Float}
-use Rattle.error.specs.declared.Checked.{Checked}
+use Rattle.error.specs.Answer.{Checked}
 use Rattle.graph_traj_segment.specs.Times.{fraction}
 use Rattle.graph_traj_laws.specs.Laws.{law_values}
 use Rattle.graph_traj_segment.specs.Times.{c1, c2, adjoint_step_start, sample_time}

@@ -6,7 +6,7 @@ use Rattle.std.specs.Float.{binary64}
 use Rattle.arithmetic.specs.Arithmetic.{ieee}
 use Rattle.ieee_square_root.specs.SquareRoot.{square_root}
 use Rattle.error.specs.Checks.{next}
-use Rattle.error.specs.declared.Checked.{Checked}
+use Rattle.error.specs.Answer.{Checked}
 use Rattle.magnus.specs.Operators.{weighted}
 use Rattle.magnus_graph_step.specs.Omega4.{exp_omega4}
 use Rattle.varcoef_magnus_graph_faults.specs.WeightedStepChecks.{weight_fault}

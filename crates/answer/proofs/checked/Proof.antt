@@ -2,7 +2,7 @@
 use mathlib.Core.Path.{sym, ap, ◌∙◌}
 use mathlib.Core.List.{[]}
 use borrow.Author.Rules.{rules}
-use Rattle.error.specs.declared.Checked.{Checked}
+use Rattle.error.specs.Answer.{Checked}
 use Rattle.answer.specs.Struct.{struct_of}
 use Rattle.answer.proofs.checked.Statement.{statement}
 use Rattle.answer.proofs.checked.Tie as tie

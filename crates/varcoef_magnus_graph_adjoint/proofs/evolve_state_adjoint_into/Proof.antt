@@ -10,8 +10,8 @@ use lib.ListN.{length}
 use borrow.Author.Rules.{rules}
 use Rattle.scratch.specs.Parts.{part}
 use Rattle.scratch.proofs.Parts.{part-whole}
-use Rattle.error.specs.declared.Checked.{Checked}
-use Rattle.error.specs.declared.Checked.TheVariants.{Accepted}
+use Rattle.error.specs.Answer.{Checked}
+use Rattle.error.specs.Answer.{Accepted}
 use Rattle.magnus_graph_outcome.specs.StepOutcome.{adjoint}
 use Rattle.graph_traj_parts.specs.Trajectory.{Trajectory, trajectory}
 use Rattle.graph_traj_adjoint_faults.specs.AcceptedAdjointRun.{AcceptedWeightedAdjointRun}

@@ -7,7 +7,7 @@ use native.Mathlib.Nat.{max-eq_left, max-eq_right}
 use native.Mathlib.Omega.{arith}
 use Rattle.error.specs.Checks.{refuse_if}
 use Rattle.error.specs.declared.Refusal.TheVariants.{Length}
-use Rattle.error.specs.declared.Checked.TheVariants.{Refused}
+use Rattle.error.specs.Answer.{Refused}
 use Rattle.error.proofs.Checks.{refuses, accepts}
 use Rattle.varcoef_magnus_graph_faults.specs.WeightedStepChecks.{weights_length_fault}
 use Rattle.varcoef_magnus_graph_checks.proofs.check_weights_length.Statement.{statement}
