@@ -12,8 +12,6 @@ use graph_counts::check_entry_count;
 use graph_shape::check_shape;
 use graph_values::kernel::check_values;
 
-pub mod kernel;
-
 // The parts of a Laplacian as a caller lends them: n, the row starts, the columns and the values. Nothing of them has been checked.
 #[derive(Clone, Copy)]
 pub struct CsrParts<'a> {

@@ -1,1 +1,2 @@
 pub mod RowProduct
+pub mod Product

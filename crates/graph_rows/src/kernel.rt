@@ -1,44 +1,60 @@
-// The row product of a Laplacian, for callers that have checked its pattern.
+// The row product of a sample, for callers whose checks have accepted its pattern.
 ghost use Rattle.std.specs.Prelude.{◌≡◌, ◌<◌, length};
-ghost use Rattle.graph_checks.specs.Pattern.{Pattern};
-ghost use Rattle.graph_rows.specs.RowProduct.{row_sum64, row_product64};
+ghost use Rattle.graph_checks.specs.Pattern.{Pattern as IsPattern};
 
-// Row i of the product with src (01, part 1): it starts at +0 and adds value * signal[column] in stored order. Every
-// product with one sample goes through this function. The whole pattern is required: n is at most 4,096, and every column
-// is below n.
-pub fn row_sum(row_ptr: &[usize], col_idx: &[u32], vals: &[f64], src: &[f64], i: usize) -> f64
-    requires pattern { Pattern (length src.now) row_ptr.now col_idx.now }
-    requires vals_len { length vals.now ≡ length col_idx.now }
-    requires i_in_bounds { i < length src.now }
-    ensures { result ≡ row_sum64 row_ptr.now col_idx.now vals.now src.now i }
-{
-    let mut acc = 0.0;
-    for k in row_ptr[i]..row_ptr[i + 1] {
-        let c = col_idx[k] as usize;
-        acc = acc + vals[k] * src[c];
-    }
-    acc
+// A pattern: n nodes, n + 1 row starts, and a column for each entry. The checks have accepted all of it: n is at most 4,096, and every column is
+// below n.
+#[derive(Clone, Copy)]
+pub struct Pattern<'a> {
+    pub n: usize,
+    pub row_ptr: &'a [usize],
+    pub col_idx: &'a [u32],
+    pub ghost accepted: { IsPattern n row_ptr.now col_idx.now },
 }
 
-// out becomes the product with src (`apply_into_slice` of the Rust). A turn does two rows.
-pub fn product(row_ptr: &[usize], col_idx: &[u32], vals: &[f64], src: &[f64], out: &mut [f64])
-    requires pattern { Pattern (length src.now) row_ptr.now col_idx.now }
-    requires vals_len { length vals.now ≡ length col_idx.now }
-    requires out_len { length out.old ≡ length src.now }
-    ensures { let v = src.now in
-        out.new
-        ≡ row_product64 (length v) row_ptr.now col_idx.now vals.now v }
-{
-    let n = src.len();
-    let mut i = 0;
-    while i + 1 < n {
-        let acc = row_sum(row_ptr, col_idx, vals, src, i);
-        let next = row_sum(row_ptr, col_idx, vals, src, i + 1);
-        out[i] = acc;
-        out[i + 1] = next;
-        i = i + 2;
+// A sample: a pattern and a value for each of its entries, whatever the values are.
+#[derive(Clone, Copy)]
+pub struct Sample<'a> {
+    pub pattern: Pattern<'a>,
+    pub vals: &'a [f64],
+    pub ghost count: { length vals.now ≡ length pattern.col_idx.now },
+}
+
+impl<'a> Sample<'a> {
+    ghost use Rattle.graph_rows.specs.Product.{row_sum_of, product_of};
+
+    // Row i of the product with src (01, part 1): it starts at +0 and adds value * signal[column] in stored order. Every
+    // product with one sample goes through this function.
+    pub fn row_sum(self, src: &[f64], i: usize) -> f64
+        requires src_len { length src.now ≡ self.pattern.n }
+        requires i_in_bounds { i < self.pattern.n }
+        ensures { result ≡ row_sum_of self.entry src.now i }
+    {
+        let mut acc = 0.0;
+        for k in self.pattern.row_ptr[i]..self.pattern.row_ptr[i + 1] {
+            let c = self.pattern.col_idx[k] as usize;
+            acc = acc + self.vals[k] * src[c];
+        }
+        acc
     }
-    if i < n {
-        out[i] = row_sum(row_ptr, col_idx, vals, src, i);
+
+    // out becomes the product with src (`apply_into_slice` of the Rust). A turn does two rows.
+    pub fn product(self, src: &[f64], out: &mut [f64])
+        requires src_len { length src.now ≡ self.pattern.n }
+        requires out_len { length out.old ≡ self.pattern.n }
+        ensures { out.new ≡ product_of self.entry src.now }
+    {
+        let n = self.pattern.n;
+        let mut i = 0;
+        while i + 1 < n {
+            let acc = self.row_sum(src, i);
+            let next = self.row_sum(src, i + 1);
+            out[i] = acc;
+            out[i + 1] = next;
+            i = i + 2;
+        }
+        if i < n {
+            out[i] = self.row_sum(src, i);
+        }
     }
 }
