@@ -11,7 +11,7 @@ use magnus_graph_coefficients::kernel::reciprocal_factorial;
 use scratch::kernel::copy_within;
 
 // The Ω of a step: what is added to the Taylor sum in one term.
-pub trait Omega: Copy {
+pub trait Omega {
     // The number of nodes n, how much of the work slice a term may change, and Ω at a vector.
     ghost nodes: { Self → ℕ };
 
@@ -19,24 +19,22 @@ pub trait Omega: Copy {
 
     ghost image: { Self → List Float → List Float };
 
-    // A term changes the first two vectors, and maybe others.
-    ghost room: { (o : Self) → 2 * nodes o ≤ used o };
-
     // The number of nodes.
-    fn node_count(self) -> usize
-        ensures { result ≡ nodes self };
+    fn node_count(&self) -> usize
+        ensures { result ≡ nodes self.now };
 
     // One term: v becomes Ωv, and coefficient · Ωv is added to the sum.
-    fn add_term(self, coefficient: f64, work: &mut [f64])
-        requires { used self ≤ length work.old }
-        ensures { TermAdded (ieee binary64) (nodes self) (used self) (image self) coefficient work.old work.new };
+    fn add_term(&self, coefficient: f64, work: &mut [f64])
+        requires { used self.now ≤ length work.old }
+        ensures { TermAdded (ieee binary64) (nodes self.now) (used self.now) (image self.now) coefficient work.old work.new };
 }
 
 // The Taylor sum of so many terms (`compute_taylor4` and `accumulate_taylor6` of the Rust): the vector at 0, the signal, becomes the step's answer.
-pub fn taylor_sum<W: Omega>(omega: W, terms: usize, work: &mut [f64])
+pub fn taylor_sum<W: Omega>(omega: &W, terms: usize, work: &mut [f64])
     requires terms_bound { terms ≤ 6 }
-    requires used_in_bounds { W.used omega ≤ length work.old }
-    ensures { TermsAdded (ieee binary64) (W.nodes omega) (W.used omega) (reciprocal_factorial binary64) terms (W.image omega)
+    requires two_vectors { 2 * W.nodes omega.now ≤ W.used omega.now }
+    requires used_in_bounds { W.used omega.now ≤ length work.old }
+    ensures { TermsAdded (ieee binary64) (W.nodes omega.now) (W.used omega.now) (reciprocal_factorial binary64) terms (W.image omega.now)
         work.old work.new }
 {
     let n = omega.node_count();

@@ -5,86 +5,57 @@
 //   2n  a = L1 v
 //   3n  b = L2 v
 //   4n  c = L2 a
-ghost use Rattle.std.specs.Prelude.{◌≡◌, ◌+◌, ◌*◌, ◌≤◌, length};
-ghost use Rattle.std.specs.Float.{binary64};
-ghost use Rattle.rounding.specs.StepLength.{minus_half};
-ghost use Rattle.arithmetic.specs.Arithmetic.{ieee};
-ghost use Rattle.scratch.specs.Parts.{part, put, Apart};
-ghost use Rattle.graph_checks.specs.Pattern.{ValuedPattern};
-ghost use Rattle.graph_rows.specs.RowProduct.{row_product64};
-ghost use Rattle.magnus.specs.Operators.{omega4};
-ghost use Rattle.magnus_graph_helpers.specs.Terms.{TermAdded};
+ghost use Rattle.std.specs.Prelude.{◌≡◌, ◌*◌};
+ghost use Rattle.magnus_graph_helpers.specs.Factors.{omega4_with};
+ghost use Rattle.graph_rows.specs.Product.{product_of};
 
+use graph_rows::kernel::Sample;
 use graph_scratch::kernel::product_in;
+use magnus_graph_helpers::factors::Factors;
 use magnus_graph_helpers::kernel::omega_sum;
+use magnus_graph_taylor::kernel::Omega;
 use scratch_scaled_sums::kernel::add_scaled;
 
-// The product of the first sample with the vector at `source1`, to `target1`, and then that of the second sample with the
-// vector at `source2`, to `target2`.
-fn two_products(
-    row_ptr1: &[usize],
-    col_idx1: &[u32],
-    vals1: &[f64],
-    row_ptr2: &[usize],
-    col_idx2: &[u32],
-    vals2: &[f64],
-    work: &mut [f64],
-    n: usize,
-    source1: usize,
-    target1: usize,
-    source2: usize,
-    target2: usize,
-)
-    requires valued_pattern { ValuedPattern n row_ptr1.now col_idx1.now vals1.now }
-    requires valued_pattern_2 { ValuedPattern n row_ptr2.now col_idx2.now vals2.now }
-    requires n_in_bounds { (source1 + n ≤ length work.old) × (target1 + n ≤ length work.old) × Apart n source1 target1 }
-    requires n_in_bounds_2 { (source2 + n ≤ length work.old) × (target2 + n ≤ length work.old) × Apart n source2 target2 }
-    ensures { let w = work.old in
-        let L1 = row_product64 n row_ptr1.now col_idx1.now vals1.now in
-        let L2 = row_product64 n row_ptr2.now col_idx2.now vals2.now in
-        let w1 = put target1 (L1 (part source1 n w)) w in
-        work.new ≡ put target2 (L2 (part source2 n w1)) w1 }
-{
-    product_in(row_ptr1, col_idx1, vals1, work, n, source1, target1);
-    product_in(row_ptr2, col_idx2, vals2, work, n, source2, target2);
+// Ω of order 4 of two samples, each with a pattern of its own.
+#[derive(Clone, Copy)]
+pub struct Omega4<'a> {
+    pub first: Sample<'a>,
+    pub second: Sample<'a>,
+    pub factors: Factors,
+    pub ghost same_nodes: { second.pattern.n ≡ first.pattern.n },
 }
 
-// One term of the Taylor sum (`apply_omega4` and `axpy_into_slice` of the Rust): v becomes Ωv, and coefficient · Ωv is
-// added to the sum.
-pub fn taylor_term(
-    row_ptr1: &[usize],
-    col_idx1: &[u32],
-    vals1: &[f64],
-    row_ptr2: &[usize],
-    col_idx2: &[u32],
-    vals2: &[f64],
-    tau: f64,
-    sign: f64,
-    s: f64,
-    coefficient: f64,
-    work: &mut [f64],
-    n: usize,
-)
-    requires valued_pattern { ValuedPattern n row_ptr1.now col_idx1.now vals1.now }
-    requires valued_pattern_2 { ValuedPattern n row_ptr2.now col_idx2.now vals2.now }
-    requires n_in_bounds { 5 * n ≤ length work.old }
-    ensures { let A = ieee binary64 in
-        let L1 = row_product64 n row_ptr1.now col_idx1.now vals1.now in
-        let L2 = row_product64 n row_ptr2.now col_idx2.now vals2.now in
-        TermAdded A n (5 * n) (omega4 A n minus_half s sign tau L1 L2) coefficient
-        work.old work.new }
-{
-    let a = 2 * n;
-    let b = 3 * n;
-    let c = 4 * n;
-    let scale = -0.5 * tau;
-    let comm_scale = sign * s * tau * tau;
-    two_products(
-        row_ptr1, col_idx1, vals1, row_ptr2, col_idx2, vals2, work, n, n, a, n, b,
-    );
-    two_products(
-        row_ptr1, col_idx1, vals1, row_ptr2, col_idx2, vals2, work, n, b, n, a, c,
-    );
-    omega_sum(work, n, a, b, c, n, scale, comm_scale);
-    add_scaled(work, n, coefficient, n, 0);
+impl<'a> Omega for Omega4<'a> {
+    ghost nodes = { λ o. o.first.pattern.n };
+
+    ghost used = { λ o. 5 * o.first.pattern.n };
+
+    ghost image = { λ o. omega4_with o.factors o.first.pattern.n (product_of o.first) (product_of o.second) };
+
+    fn node_count(&self) -> usize {
+        self.first.pattern.n
+    }
+
+    // `apply_omega4` and `axpy_into_slice` of the Rust.
+    fn add_term(&self, coefficient: f64, work: &mut [f64]) {
+        let n = self.first.pattern.n;
+        let a = 2 * n;
+        let b = 3 * n;
+        let c = 4 * n;
+        product_in(self.first, work, n, a);
+        product_in(self.second, work, n, b);
+        product_in(self.first, work, b, n);
+        product_in(self.second, work, a, c);
+        omega_sum(
+            work,
+            n,
+            a,
+            b,
+            c,
+            n,
+            self.factors.scale(),
+            self.factors.comm_scale(),
+        );
+        add_scaled(work, n, coefficient, n, 0);
+    }
 }

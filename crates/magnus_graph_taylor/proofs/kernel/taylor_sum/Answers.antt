@@ -9,7 +9,6 @@ use Rattle.magnus_graph_taylor.proofs.kernel.taylor_sum.Goals as goal
 pub loop-k-init : goal.loop-k-init
 loop-k-init g c =
     let n = c.node_count-n.ensures in
-    let room = g.W.Omega.room c.args.omega in
     turns-none (ieee binary64) _ _ _ c.args.terms _ c.args.work.now _ (omega arith) (rw n at c.copy_within.ensures)
 
 pub loop-k-preserved : goal.loop-k-preserved
@@ -19,5 +18,4 @@ loop-k-preserved g c =
 pub returns : goal.returns
 returns g c =
     let n = c.node_count-n.ensures in
-    let room = g.W.Omega.room c.args.omega in
-    turns-all (ieee binary64) _ _ _ c.args.work.now _ (omega arith) room (rw n at c.copy_within.ensures) c.loop-k.invariant c.loop-k-test.false
+    turns-all (ieee binary64) _ _ _ c.args.work.now _ (omega arith) c.requires.two_vectors (rw n at c.copy_within.ensures) c.loop-k.invariant c.loop-k-test.false
