@@ -13,6 +13,7 @@ ghost use Rattle.graph.specs.ProductOutcome.{product_outcome_of};
 use error::{Refusal, check_length};
 // the checks and what they are made of, callable from here too
 pub use graph_checks::{CsrParts, check_pattern, from_csr_parts};
+use graph_rows::kernel::Sample;
 
 // The Gershgorin bound of a Laplacian, ρ̄ = max over the rows of Σ |value|, rounded as the Rust rounds it. Refused as
 // `from_csr_parts` refuses.
@@ -43,6 +44,6 @@ pub fn apply_into_slice(parts: CsrParts<'_>, src: &[f64], dst: &mut [f64]) -> Re
     let Ok(()) = output else {
         return output;
     };
-    graph_rows::kernel::product(parts.row_ptr, parts.col_idx, parts.vals, src, dst);
+    Sample::from_parts(parts).product(src, dst);
     Ok(())
 }
