@@ -8,9 +8,7 @@ pub fn clear(work: &mut [f64], need: usize)
     requires { need ≤ length work.old }
     ensures { work.new ≡ put 0 (zeros need) work.old }
 {
-    for i in 0..need {
-        work[i] = 0.0;
-    }
+    work[..need].fill(0.0);
 }
 
 // The vector at `at` becomes v.
@@ -18,9 +16,7 @@ pub fn load(work: &mut [f64], at: usize, v: &[f64])
     requires { at + length v.now ≤ length work.old }
     ensures { work.new ≡ put at v.now work.old }
 {
-    for i in 0..v.len() {
-        work[at + i] = v[i];
-    }
+    work[at..at + v.len()].copy_from_slice(v);
 }
 
 // out becomes the vector at `at`, of as many places as out has.
@@ -28,9 +24,7 @@ pub fn store(work: &[f64], at: usize, out: &mut [f64])
     requires { at + length out.old ≤ length work.now }
     ensures { out.new ≡ part at (length out.old) work.now }
 {
-    for i in 0..out.len() {
-        out[i] = work[at + i];
-    }
+    out.copy_from_slice(&work[at..at + out.len()]);
 }
 
 // The vector at `target` becomes the one at `source`.
@@ -39,7 +33,5 @@ pub fn copy_within(work: &mut [f64], n: usize, source: usize, target: usize)
     ensures { let w = work.old in
         work.new ≡ put target (part source n w) w }
 {
-    for i in 0..n {
-        work[target + i] = work[source + i];
-    }
+    work.copy_within(source..source + n, target);
 }
