@@ -29,6 +29,7 @@ pub fn omega_sum(
 {
     let scale = factors.scale();
     let comm_scale = factors.comm_scale();
+    // Four vectors of one slice, some of which may be the same: by index, since they cannot be lent side by side.
     for i in 0..n {
         let d = work[target + i];
         work[target + i] = scale * (work[a + i] + work[b + i]) + comm_scale * (work[c + i] - d);
