@@ -13,10 +13,9 @@ use error::Refusal;
 pub fn check_laws(laws: &[u8]) -> Result<(), Refusal>
     ensures { result ≡ laws_fault laws.now }
 {
-    for k in 0..laws.len() {
-        let law = laws[k] as usize;
+    for &law in laws {
         if law > 2 {
-            return Err(Refusal::Law(law));
+            return Err(Refusal::Law(law as usize));
         }
     }
     Ok(())

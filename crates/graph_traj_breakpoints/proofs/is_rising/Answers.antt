@@ -5,14 +5,12 @@ use mathlib.Core.List.{List}
 use Prim.Native.Nat.{ℕ, ◌-◌}
 use native.Mathlib.Omega.{arith}
 use lib.Dec.{ltb}
+use borrow.Author.Tests.{lt-ltb, le-ltb}
 use lib.Ieee.{Float, lt}
 use lib.Ieee.Scale.{finite}
-use borrow.Author.Rules.{rules}
-use borrow.Author.Tests.{lt-ltb, le-ltb}
 use Rattle.graph_traj_breakpoints.specs.Breakpoints.{breakpoint}
 use Rattle.graph_traj_breakpoints.specs.LookupChecks.{not_rising_at}
-use Rattle.graph_traj_breakpoints.proofs.is_rising.Statement.{statement}
-use Rattle.graph_traj_breakpoints.proofs.is_rising.Tie as tie
+use Rattle.graph_traj_breakpoints.proofs.is_rising.Goals as goal
 
 -- the code's test is the opposite of the definition's
 opposite : (finite later above : Bool) → (finite && (not later || above)) ≡ not (not finite || later && not above)
@@ -35,39 +33,8 @@ module _ (breakpoints : List Float) (i : ℕ) (answer : Bool) (e : answer ≡ fi
       let later : ltb 0 i ≡ true = lt-ltb 0 i (omega arith) in
       rw (later, e) (opposite (finite (breakpoint breakpoints i)) true _)
 
-mul-x : tie.Need-offset_bounds-breakpoints-i
-mul-x c = search rules
+pub returns-then-i-eq0 : goal.returns-then-i-eq0
+returns-then-i-eq0 c = at_first _ _ _ c.is_finite-is_finite.ensures c.if-i-eq0.true
 
-shared-slice-read-x : tie.Need-bounds-breakpoints-i
-shared-slice-read-x c = search rules
-
-is-finite-requires : tie.Need-is_finite-is_finite-requires
-is-finite-requires c κs = search rules
-
-returns : tie.Need-returns-then-i-eq0
-returns c = at_first _ _ _ c.is_finite-is_finite.ensures c.if-i-eq0.true
-
-sub-result : tie.Need-overflow_sub-result
-sub-result c = search rules
-
-mul-result : tie.Need-offset_bounds-breakpoints-i-2
-mul-result c = search rules
-
-shared-slice-read-result : tie.Need-bounds-breakpoints-i-2
-shared-slice-read-result c = search rules
-
-returns-2 : tie.Need-returns
-returns-2 c = at-later _ _ _ c.is_finite-is_finite.ensures c.if-i-eq0.false
-
-pub is_rising_spec : {M : Type 1} → statement M
-is_rising_spec =
-    tie.close
-    (tie.spec
-    mul-x
-    shared-slice-read-x
-    is-finite-requires
-    returns
-    sub-result
-    mul-result
-    shared-slice-read-result
-    returns-2)
+pub returns : goal.returns
+returns c = at-later _ _ _ c.is_finite-is_finite.ensures c.if-i-eq0.false
