@@ -1,7 +1,7 @@
 // Vectors put into a work slice, taken out of it, copied within it and cleared, for callers that keep the vectors within it, and apart
 // where one is read while another is written.
-ghost use Rattle.std.specs.Prelude.{◌≡◌, ◌+◌, ◌≤◌, length};
-ghost use Rattle.scratch.specs.Parts.{part, put, Apart, zeros};
+ghost use Rattle.std.specs.Prelude.{◌≡◌, ◌+◌, ◌<◌, ◌≤◌, length, Float};
+ghost use Rattle.scratch.specs.Parts.{part, put, Apart, zeros, combined, Computes};
 
 // The first `need` elements become +0 (01, "What a call answers": what is zeroed is the part that the call needed).
 pub fn clear(work: &mut [f64], need: usize)
@@ -34,4 +34,25 @@ pub fn copy_within(work: &mut [f64], n: usize, source: usize, target: usize)
         work.new ≡ put target (part source n w) w }
 {
     work.copy_within(source..source + n, target);
+}
+
+// The vector at `target` becomes what f makes, place by place, of those at x and y. None of these begins before the target and ends within
+// it, so that a place is read before it is written; it may be the target itself.
+pub fn combine_within<F: Fn(f64, f64) -> f64>(
+    work: &mut [f64],
+    n: usize,
+    x: usize,
+    y: usize,
+    target: usize,
+    f: F,
+)
+    requires n_in_bounds { (x + n ≤ length work.old) × (y + n ≤ length work.old) × (target + n ≤ length work.old) }
+    requires read_first { (x < target → x + n ≤ target) × (y < target → y + n ≤ target) }
+    requires callable { F.IsAlwaysCallable f }
+    ensures { let w = work.old in
+        (h : Float → Float → Float) → Computes (F.post f) h → work.new ≡ put target (combined h n (part x n w) (part y n w)) w }
+{
+    for i in 0..n {
+        work[target + i] = f(work[x + i], work[y + i]);
+    }
 }
