@@ -6,10 +6,8 @@ use native.Mathlib.Omega.{arith}
 use lib.Dec.{T, nltb→le}
 use lib.Ieee.{binary64, nan_bits}
 use lib.Ieee.Bits.{nan_bits_above}
-use borrow.Author.Rules.{rules}
 use borrow.Author.Tests.{le-ltb}
-use Rattle.square_roots_estimates.proofs.kernel.estimate.Statement.{statement}
-use Rattle.square_roots_estimates.proofs.kernel.estimate.Tie as tie
+use Rattle.square_roots_estimates.proofs.kernel.estimate.Goals as goal
 
 without-last : (b : ℕ) → T (not (nan_bits binary64 b)) → T (not (nan_bits binary64 (b - b % 134217728)))
 without-last b h =
@@ -20,20 +18,5 @@ without-last b h =
     less : (b : ℕ) → b % 9223372036854775808 ≤ 9218868437227405312 → (b - b % 134217728) % 9223372036854775808 ≤ 9218868437227405312
     less b h = omega arith
 
-inverse-root-requires : tie.Need-inverse_root-y-requires
-inverse-root-requires c κs = search rules
-
-bits-or-zero-requires : tie.Need-bits_or_zero-digits-requires
-bits-or-zero-requires c κs = search rules
-
-sub-leading : tie.Need-overflow_sub-leading
-sub-leading c = search rules
-
-float-from-bits-leading : tie.Need-float_from_bits-leading
-float-from-bits-leading c = without-last c.bits_or_zero-digits.result c.bits_or_zero-digits.ensures.no_nan
-
-returns : tie.Need-returns
-returns c = search rules
-
-pub estimate_spec : {M : Type 1} → statement M
-estimate_spec = tie.close (tie.spec inverse-root-requires bits-or-zero-requires sub-leading float-from-bits-leading returns)
+pub float_from_bits-leading : goal.float_from_bits-leading
+float_from_bits-leading c = without-last c.bits_or_zero-digits.result c.bits_or_zero-digits.ensures.no_nan
