@@ -24,6 +24,7 @@ pub fn omega_sum(
         let Ωv = omega4_sum (ieee binary64) n scale comm_scale (part a n w) (part b n w) (part c n w) (part target n w) in
         work.new ≡ put target Ωv w }
 {
+    // Four vectors of one slice, some of which may be the same: by index, since they cannot be lent side by side.
     for i in 0..n {
         let d = work[target + i];
         work[target + i] = scale * (work[a + i] + work[b + i]) + comm_scale * (work[c + i] - d);

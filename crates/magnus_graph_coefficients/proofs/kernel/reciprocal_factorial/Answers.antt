@@ -1,12 +1,11 @@
--- `magnus_graph_coefficients::kernel::reciprocal_factorial` meets its contract: each branch knows k, and its division is that of
--- the definition, as computing both shows. Assumes nothing.
+-- `magnus_graph_coefficients::kernel::reciprocal_factorial` meets its contract: each arm knows k, and its division is that of
+-- the definition, as computing both shows.
 use mathlib.Core.Path.{◌≡◌, refl}
 use Prim.Native.Nat.{ℕ}
 use native.Mathlib.Omega.{arith}
 use lib.Ieee.{Float, binary64, div, of_bits, of_int}
 use Rattle.magnus.specs.Coefficients.{factorial, reciprocal_factorial}
-use Rattle.magnus_graph_coefficients.proofs.kernel.reciprocal_factorial.Statement.{statement}
-use Rattle.magnus_graph_coefficients.proofs.kernel.reciprocal_factorial.Tie as tie
+use Rattle.magnus_graph_coefficients.proofs.kernel.reciprocal_factorial.Goals as goal
 
 -- 1 divided by the number with these bits
 abbrev over : ℕ → Float
@@ -37,24 +36,20 @@ over1 : over 0x3FF0_0000_0000_0000 ≡ reciprocal_factorial binary64 1
 unfolding reciprocal_factorial factorial of_int of_bits
 over1 = refl
 
-returns : tie.Need-returns-then-k-eq6
-returns c = let e : c.args.k ≡ 6 = omega arith in rw e over720
+pub returns-in-1 : goal.returns-in-1
+returns-in-1 c = rw c.in-1.is over1
 
-returns-2 : tie.Need-returns-then-k-eq5
-returns-2 c = let e : c.args.k ≡ 5 = omega arith in rw e over120
+pub returns-in-2 : goal.returns-in-2
+returns-in-2 c = rw c.in-2.is over2
 
-returns-3 : tie.Need-returns-then-k-eq4
-returns-3 c = let e : c.args.k ≡ 4 = omega arith in rw e over24
+pub returns-in-3 : goal.returns-in-3
+returns-in-3 c = rw c.in-3.is over6
 
-returns-4 : tie.Need-returns-then-k-eq3
-returns-4 c = let e : c.args.k ≡ 3 = omega arith in rw e over6
+pub returns-in-4 : goal.returns-in-4
+returns-in-4 c = rw c.in-4.is over24
 
-returns-5 : tie.Need-returns-then-k-eq2
-returns-5 c = let e : c.args.k ≡ 2 = omega arith in rw e over2
+pub returns-in-5 : goal.returns-in-5
+returns-in-5 c = rw c.in-5.is over120
 
-returns-6 : tie.Need-returns
-returns-6 c = let e : c.args.k ≡ 1 = omega arith in rw e over1
-
-pub reciprocal_factorial_spec : {M : Type 1} → statement M
-reciprocal_factorial_spec =
-    tie.close (tie.spec returns returns-2 returns-3 returns-4 returns-5 returns-6)
+pub returns-in_default : goal.returns-in_default
+returns-in_default c = let e : c.args.k ≡ 6 = omega arith in rw e over720
