@@ -43,8 +43,8 @@ pub fn all_positive(weights: &[f64]) -> bool
     ensures { result ≡ all (λ w. not (not_positive w)) weights.now }
 {
     let mut passed = true;
-    for k in 0..weights.len() {
-        passed = passed & is_positive(weights[k]);
+    for weight in weights {
+        passed = passed & is_positive(*weight);
     }
     passed
 }
@@ -53,14 +53,12 @@ pub fn all_positive(weights: &[f64]) -> bool
 fn first_not_positive(weights: &[f64]) -> usize
     ensures { result ≡ first (not_positive_at weights.now) (length weights.now) }
 {
-    let mut k = 0;
-    while k < weights.len() {
-        if !is_positive(weights[k]) {
+    for (k, weight) in weights.iter().enumerate() {
+        if !is_positive(*weight) {
             return k;
         }
-        k += 1;
     }
-    k
+    weights.len()
 }
 
 // Row 11, of one sample's weights: every one is finite and above 0. Accepted weights cost one walk that only finds out
