@@ -3,10 +3,11 @@
 use mathlib.Core.Path.{◌≡◌, refl, sym, ap, ap₂, ◌∙◌}
 use mathlib.Core.Bool.{Bool, true, false, ◌&&◌, and-true, and_assoc, and_comm, and_self_left}
 use mathlib.Core.List.{List, [], ◌∷◌, ◌++◌}
-use Prim.Native.Nat.{ℕ, ◌+◌}
+use Prim.Native.Nat.{ℕ, ◌+◌, ◌≤◌, ◌<◌}
+use native.Mathlib.Numerals.{add-one}
 use native.Mathlib.Omega.{arith}
-use lib.ListN.{length, take, drop, take-append-drop}
-use lib.Seq.{take-add}
+use lib.ListN.{length, get_or, take, drop, take-append-drop}
+use lib.Seq.{take-suc, take_all, take-add}
 use Rattle.std.specs.List.{zip}
 use Rattle.float.specs.All.{all}
 
@@ -26,6 +27,25 @@ module _ {A : Type 0} (p : A → Bool) where
   pub all-of-none : true ≡ all p []
   unfolding all
   all-of-none = refl
+
+  -- of one element more: the answer so far is b, and the element at place k has the answer t
+  pub all_more : (xs : List A) (d : A) (k : ℕ) (b t : Bool)
+      → k < length xs
+      → b ≡ all p (take k xs)
+      → t ≡ p (get_or xs k d)
+      → (b && t) ≡ all p (take (k + 1) xs)
+  unfolding all
+  all_more xs d k b t l e f =
+      ap (λ (x : Bool). x && t) e
+      ∙ ap (λ (x : Bool). all p (take k xs) && x) (f ∙ sym (and-true (p (get_or xs k d))))
+      ∙ sym (ap (all p) (ap (λ (j : ℕ). take j xs) (add-one k) ∙ take-suc xs k d l)
+      ∙ all_append (take k xs) (get_or xs k d ∷ []))
+
+  -- of all of them
+  pub all-passed : (xs : List A) (k : ℕ) (b : Bool) → length xs ≤ k → b ≡ all p (take k xs) → b ≡ all p xs
+  all-passed xs k b l e = e ∙ ap (all p) (take_all k xs l)
+
+  -- ---- of two lists at once
 
   exchange : (a b c d : Bool) → (a && b && (c && d)) ≡ (a && c && (b && d))
   exchange true true c d = refl
