@@ -7,7 +7,9 @@ ghost use Rattle.magnus_graph_outcome.specs.StepOutcome.{step_input, Stepped, fo
 
 use error::Refusal;
 use graph_checks::CsrParts;
+use graph_rows::kernel::Sample;
 use magnus_graph_checks::binary64_values;
+use magnus_graph_helpers::factors::Factors;
 use magnus_graph_step::kernel::step4;
 use magnus_graph_step_checks::check_step;
 
@@ -108,16 +110,15 @@ fn step(
     };
     binary64_values(first.vals);
     binary64_values(second.vals);
-    step4(
-        first.row_ptr,
-        first.col_idx,
-        first.vals,
-        second.row_ptr,
-        second.col_idx,
-        second.vals,
+    let factors = Factors {
         tau,
         sign,
-        SQRT3_OVER_12_F64,
+        s: SQRT3_OVER_12_F64,
+    };
+    step4(
+        Sample::from_parts(first),
+        Sample::from_parts(second),
+        factors,
         src,
         dst,
         work,
