@@ -52,6 +52,7 @@ pub fn combine_within<F: Fn(f64, f64) -> f64>(
     ensures { let w = work.old in
         (h : Float → Float → Float) → Computes (F.post f) h → work.new ≡ put target (combined h n (part x n w) (part y n w)) w }
 {
+    // By index: the vectors lie in one slice, and a second split of it has no generated proof.
     for i in 0..n {
         work[target + i] = f(work[x + i], work[y + i]);
     }
