@@ -9,13 +9,13 @@ use graph_rows::kernel::Sample;
 
 // A sample and the square roots of its weights, one for each node.
 #[derive(Clone, Copy)]
-pub struct WeightedSample<'a> {
+pub struct WeightedSample<'a, 'r> {
     pub sample: Sample<'a>,
-    pub roots: &'a [f64],
+    pub roots: &'r [f64],
     pub ghost roots_len: { length roots.now ≡ sample.pattern.n },
 }
 
-impl<'a> WeightedSample<'a> {
+impl<'a, 'r> WeightedSample<'a, 'r> {
     ghost use Rattle.graph_rows.specs.Product.{product_of};
     ghost use Rattle.varcoef_magnus_graph_products.specs.WeightedProduct.{with_product};
 

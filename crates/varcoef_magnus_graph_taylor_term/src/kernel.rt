@@ -21,14 +21,14 @@ use varcoef_magnus_graph_products::kernel::WeightedSample;
 
 // Ω of order 4 of two samples with weights, each with a pattern of its own.
 #[derive(Clone, Copy)]
-pub struct WeightedOmega4<'a> {
-    pub first: WeightedSample<'a>,
-    pub second: WeightedSample<'a>,
+pub struct WeightedOmega4<'a, 'r> {
+    pub first: WeightedSample<'a, 'r>,
+    pub second: WeightedSample<'a, 'r>,
     pub factors: Factors,
     pub ghost same_nodes: { second.sample.pattern.n ≡ first.sample.pattern.n },
 }
 
-impl<'a> Omega for WeightedOmega4<'a> {
+impl<'a, 'r> Omega for WeightedOmega4<'a, 'r> {
     ghost nodes = { λ o. o.first.sample.pattern.n };
 
     ghost used = { λ o. 6 * o.first.sample.pattern.n };
