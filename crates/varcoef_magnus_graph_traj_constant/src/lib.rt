@@ -1,4 +1,4 @@
-// A step of the weighted adjoint run with one list for both samples: `kernel`, its Taylor sum.
+// A step of the weighted adjoint run with one list for both samples: `kernel`, its Ω.
 #![tactic(auto)]
 
 pub mod kernel;
