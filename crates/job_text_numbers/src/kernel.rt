@@ -11,6 +11,7 @@ use std::marker::Model;
 pub const TEXT: usize = 1096;
 
 // The bytes that are written so far. A contract sees it as the list of them.
+// It is no `fmt::Write`: `write!` may answer an `Err`, of which std's contract says nothing, and a job's text cannot fail.
 #[derive(Drop)]
 pub struct Text {
     bytes: ArrayVec<u8, TEXT>,
