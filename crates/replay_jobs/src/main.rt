@@ -3,7 +3,6 @@
 #![tactic(auto)]
 
 use job_run::run_job;
-use job_text::TEXT;
 use replay::{Tally, next_case};
 use replay_answers::texts::are_alike;
 use replay_fields::{further, number32};
@@ -23,9 +22,8 @@ fn job_right(fields: &[u8]) -> bool {
     if end < 4 || fields.len() < end {
         return false;
     }
-    let mut text = [0u8; TEXT];
-    let length = run_job(&fields[4..end], &mut text);
-    text_right(&text[..length], fields, end)
+    let text = run_job(&fields[4..end]);
+    text_right(text.as_bytes(), fields, end)
 }
 
 // One case more.
