@@ -8,7 +8,8 @@ use error::Refusal;
 use graph_traj_adjoint_checks::check_adjoint_run;
 use graph_traj_checks::check::check_run;
 use graph_traj_parts::Trajectory;
-use graph_traj_parts::kernel::{CheckedTrajectory, hold_binary64};
+use graph_traj_parts::kernel::CheckedTrajectory;
+use magnus_graph_checks::binary64_values;
 use magnus_graph_traj_adjoint_run::kernel::run_adjoint_steps;
 use magnus_graph_traj_finish::kernel::finish_run;
 use magnus_graph_traj_run::kernel::run_all_segments;
@@ -42,8 +43,8 @@ pub fn evolve_with_traj_into(
     let Ok(()) = checked else {
         return checked;
     };
-    hold_binary64(trajectory.starts);
-    hold_binary64(trajectory.ends);
+    binary64_values(trajectory.starts);
+    binary64_values(trajectory.ends);
     let need = 7 * trajectory.n + 2 * trajectory.col_idx.len();
     load(work, 0, src);
     let along = CheckedTrajectory { parts: trajectory };
@@ -82,8 +83,8 @@ pub fn evolve_state_adjoint_into(
     let Ok(()) = checked else {
         return checked;
     };
-    hold_binary64(trajectory.starts);
-    hold_binary64(trajectory.ends);
+    binary64_values(trajectory.starts);
+    binary64_values(trajectory.ends);
     if steps == 0 {
         store(src, 0, dst);
         return Ok(());

@@ -46,7 +46,7 @@ returns-then-steps-eq0 c =
     let check = c.check_adjoint_run-checked.ensures in
     let yes = c.in-Ok.is in
     let lengths = adjoint-lengths a.tau given check yes in
-    run-copied (adjoint_of a.tau given) check yes lengths (adjoint-plain a.tau given c.hold_binary64.ensures c.hold_binary64-2.ensures (subst T (sym c.well_formed.1.0.1) tt))
+    run-copied (adjoint_of a.tau given) check yes lengths (adjoint-plain a.tau given c.binary64_values.ensures c.binary64_values-2.ensures (subst T (sym c.well_formed.1.0.1) tt))
     (adjoint-none a.steps c.if-steps-eq0.true)
     (c.store.ensures
     ∙ ap (λ (n : ℕ). part 0 n a.src.now) (lengths.of_output ∙ sym lengths.of-signal)
@@ -108,6 +108,6 @@ returns c =
     let check = c.check_adjoint_run-checked.ensures in
     let yes = c.in-Ok.is in
     run-finished (adjoint_of a.tau given) check yes (adjoint-lengths a.tau given check yes)
-    (adjoint-plain a.tau given c.hold_binary64.ensures c.hold_binary64-2.ensures (subst T (sym c.well_formed.1.0.1) tt))
+    (adjoint-plain a.tau given c.binary64_values.ensures c.binary64_values-2.ensures (subst T (sym c.well_formed.1.0.1) tt))
     (adjoint-some a.steps some) ((adjoint-accepted a.tau given check yes).room some) c.load.ensures
     c.run_adjoint_steps-taken.ensures c.finish_run.ensures

@@ -78,6 +78,6 @@ returns c =
     let given = lent a.trajectory a.steps a.rho_bar_max a.convergence_radius_check a.src.now a.dst.now a.work.now in
     let check = c.check_run-checked.ensures in
     let yes = c.in-Ok.is in
-    run-finished (forward_of given) check yes (forward-lengths given check yes) (forward-plain given c.hold_binary64.ensures c.hold_binary64-2.ensures)
+    run-finished (forward_of given) check yes (forward-lengths given check yes) (forward-plain given c.binary64_values.ensures c.binary64_values-2.ensures)
     (forward-some given check yes) (forward-accepted given check yes).room c.load.ensures c.run_all_segments-taken.ensures
     c.finish_run.ensures
