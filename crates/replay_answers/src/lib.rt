@@ -1,21 +1,13 @@
 // Whether a call answered and wrote what its case says.
 #![tactic(auto)]
 
-use error::{Checked, Refusal};
+use error::Refusal;
 use float_bits::{from_bits, has_bits};
 use refusal_rows::{Row, row_of};
 use replay_fields::parts::Refused;
 use replay_fields::{Fault, Field, Fields};
 
 pub mod texts;
-
-// What a check, or a call that writes to a lent slice, answered.
-pub fn checked_result(checked: Checked) -> Result<(), Refusal> {
-    match checked {
-        Checked::Accepted => Ok(()),
-        Checked::Refused(refusal) => Err(refusal),
-    }
-}
 
 // Whether a refusal is the expected one: its row of the table, with its values.
 fn is_refusal(refusal: Refusal, expected: &Refused) -> bool {
