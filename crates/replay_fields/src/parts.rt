@@ -1,5 +1,6 @@
 // What the cases of several kinds hold.
 use crate::{Fault, Field, Fields};
+use graph_checks::CsrParts;
 
 // A Laplacian.
 #[derive(Drop)]
@@ -8,6 +9,18 @@ pub struct Sample {
     pub row_ptr: Vec<usize>,
     pub col_idx: Vec<u32>,
     pub vals: Vec<f64>,
+}
+
+impl Sample {
+    // Its parts, as the calls take them.
+    pub fn parts(&self) -> CsrParts<'_> {
+        CsrParts {
+            n: self.n,
+            row_ptr: &self.row_ptr,
+            col_idx: &self.col_idx,
+            vals: &self.vals,
+        }
+    }
 }
 
 impl Field for Sample {

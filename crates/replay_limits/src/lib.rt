@@ -1,13 +1,11 @@
-// The cases at the limits of row 6, whose networks are too large for a list, and the calls on networks.
+// The cases at the limits of row 6, whose networks are too large for a list.
 #![tactic(auto)]
 
-use crate::calls::{apply_into_slice, from_csr_parts, gershgorin_bound_csr};
 use float_bits::has_bits;
+use graph::{apply_into_slice, from_csr_parts, gershgorin_bound_csr};
 use replay_answers::{is_answer, is_checked};
 use replay_fields::parts::{Refused, Sample};
 use std::alloc::{AllocError, Global};
-
-pub mod calls;
 
 // Whether the three calls on a network answer what is expected, the bound with the bits where that is the acceptance. The product goes to dst.
 fn are_answers(
@@ -16,13 +14,13 @@ fn are_answers(
     dst: &mut [f64],
     expected: &Result<u64, Refused>,
 ) -> bool {
-    is_checked(from_csr_parts(network), expected)
+    is_checked(from_csr_parts(network.parts()), expected)
         && is_answer(
-            gershgorin_bound_csr(network),
+            gershgorin_bound_csr(network.parts()),
             expected,
             |bound, bits| has_bits(bound, *bits),
         )
-        && is_checked(apply_into_slice(network, src, dst), expected)
+        && is_checked(apply_into_slice(network.parts(), src, dst), expected)
 }
 
 // Whether the three calls refuse a network with row 6 and the size, and the product leaves its output as it was.

@@ -1,7 +1,7 @@
 // The runs of order 4.
 use error::Refusal;
 use magnus_graph_traj::{evolve_state_adjoint_into, evolve_with_traj_into};
-use replay_answers::{Outcome, Work, checked_result};
+use replay_answers::{Outcome, Work};
 use replay_fields::parts::SpectralBound;
 use replay_fields::{Fault, Fields};
 use replay_run_fields::{Call, Run, RunKind, read_run};
@@ -9,24 +9,16 @@ use replay_trajectories::Form;
 
 // What a run answers.
 fn evolve(run: &Run, dst: &mut [f64], work: &mut [f64]) -> Result<(), Refusal> {
-    let trajectory = &run.trajectory;
-    let pattern = &trajectory.pattern;
+    let along = run.trajectory.parts();
     let steps = run.steps;
     let SpectralBound {
         rho_bar_max,
         convergence_radius_check,
     } = run.bound;
     let src = &run.src;
-    checked_result(match &run.call {
+    match &run.call {
         Call::Forward => evolve_with_traj_into(
-            pattern.n,
-            &pattern.row_ptr,
-            &pattern.col_idx,
-            trajectory.segments,
-            &trajectory.breakpoints,
-            &trajectory.starts,
-            &trajectory.ends,
-            &trajectory.laws,
+            along,
             steps,
             rho_bar_max,
             convergence_radius_check,
@@ -35,14 +27,7 @@ fn evolve(run: &Run, dst: &mut [f64], work: &mut [f64]) -> Result<(), Refusal> {
             work,
         ),
         Call::Adjoint { tau } => evolve_state_adjoint_into(
-            pattern.n,
-            &pattern.row_ptr,
-            &pattern.col_idx,
-            trajectory.segments,
-            &trajectory.breakpoints,
-            &trajectory.starts,
-            &trajectory.ends,
-            &trajectory.laws,
+            along,
             *tau,
             steps,
             rho_bar_max,
@@ -53,14 +38,7 @@ fn evolve(run: &Run, dst: &mut [f64], work: &mut [f64]) -> Result<(), Refusal> {
         ),
         Call::WeightedAdjoint { tau, weights } => {
             varcoef_magnus_graph_adjoint::evolve_state_adjoint_into(
-                pattern.n,
-                &pattern.row_ptr,
-                &pattern.col_idx,
-                trajectory.segments,
-                &trajectory.breakpoints,
-                &trajectory.starts,
-                &trajectory.ends,
-                &trajectory.laws,
+                along,
                 *tau,
                 steps,
                 rho_bar_max,
@@ -73,7 +51,7 @@ fn evolve(run: &Run, dst: &mut [f64], work: &mut [f64]) -> Result<(), Refusal> {
                 work,
             )
         }
-    })
+    }
 }
 
 // How many elements of the work slice a run clears that must end so: all that it needs, after an acceptance and where row 11 or 20 ends it, but

@@ -2,31 +2,24 @@
 use error::Refusal;
 use magnus_graph::{apply_exp_omega4_adj_kernel, apply_exp_omega4_kernel};
 use magnus6_graph::apply_exp_omega6_kernel;
-use replay_answers::checked_result;
 use replay_fields::parts::SpectralBound;
 use replay_step_fields::{Call, Step};
 use varcoef_magnus_graph::{apply_exp_omega4_la_adj_kernel, apply_exp_omega4_la_kernel};
 
 // What a step answers.
 pub fn apply(step: &Step, dst: &mut [f64], work: &mut [f64]) -> Result<(), Refusal> {
-    let first = &step.first;
-    let second = &step.second;
+    let first = step.first.parts();
+    let second = step.second.parts();
     let tau = step.tau;
     let SpectralBound {
         rho_bar_max,
         convergence_radius_check,
     } = step.bound;
     let src = &step.src;
-    checked_result(match &step.call {
+    match &step.call {
         Call::Forward => apply_exp_omega4_kernel(
-            first.n,
-            &first.row_ptr,
-            &first.col_idx,
-            &first.vals,
-            second.n,
-            &second.row_ptr,
-            &second.col_idx,
-            &second.vals,
+            first,
+            second,
             tau,
             rho_bar_max,
             convergence_radius_check,
@@ -35,14 +28,8 @@ pub fn apply(step: &Step, dst: &mut [f64], work: &mut [f64]) -> Result<(), Refus
             work,
         ),
         Call::Adjoint => apply_exp_omega4_adj_kernel(
-            first.n,
-            &first.row_ptr,
-            &first.col_idx,
-            &first.vals,
-            second.n,
-            &second.row_ptr,
-            &second.col_idx,
-            &second.vals,
+            first,
+            second,
             tau,
             rho_bar_max,
             convergence_radius_check,
@@ -51,14 +38,8 @@ pub fn apply(step: &Step, dst: &mut [f64], work: &mut [f64]) -> Result<(), Refus
             work,
         ),
         Call::WeightedForward(weights) => apply_exp_omega4_la_kernel(
-            first.n,
-            &first.row_ptr,
-            &first.col_idx,
-            &first.vals,
-            second.n,
-            &second.row_ptr,
-            &second.col_idx,
-            &second.vals,
+            first,
+            second,
             tau,
             rho_bar_max,
             weights.a_sup_max,
@@ -70,14 +51,8 @@ pub fn apply(step: &Step, dst: &mut [f64], work: &mut [f64]) -> Result<(), Refus
             work,
         ),
         Call::WeightedAdjoint(weights) => apply_exp_omega4_la_adj_kernel(
-            first.n,
-            &first.row_ptr,
-            &first.col_idx,
-            &first.vals,
-            second.n,
-            &second.row_ptr,
-            &second.col_idx,
-            &second.vals,
+            first,
+            second,
             tau,
             rho_bar_max,
             weights.a_sup_max,
@@ -89,18 +64,9 @@ pub fn apply(step: &Step, dst: &mut [f64], work: &mut [f64]) -> Result<(), Refus
             work,
         ),
         Call::Order6(third) => apply_exp_omega6_kernel(
-            first.n,
-            &first.row_ptr,
-            &first.col_idx,
-            &first.vals,
-            second.n,
-            &second.row_ptr,
-            &second.col_idx,
-            &second.vals,
-            third.n,
-            &third.row_ptr,
-            &third.col_idx,
-            &third.vals,
+            first,
+            second,
+            third.parts(),
             tau,
             rho_bar_max,
             convergence_radius_check,
@@ -108,5 +74,5 @@ pub fn apply(step: &Step, dst: &mut [f64], work: &mut [f64]) -> Result<(), Refus
             dst,
             work,
         ),
-    })
+    }
 }

@@ -96,6 +96,22 @@ pub struct Trajectory {
     pub laws: Vec<u8>,
 }
 
+impl Trajectory {
+    // Its parts, as the runs take them.
+    pub fn parts(&self) -> graph_traj_parts::Trajectory<'_> {
+        graph_traj_parts::Trajectory {
+            n: self.pattern.n,
+            row_ptr: &self.pattern.row_ptr,
+            col_idx: &self.pattern.col_idx,
+            segments: self.segments,
+            breakpoints: &self.breakpoints,
+            starts: &self.starts,
+            ends: &self.ends,
+            laws: &self.laws,
+        }
+    }
+}
+
 // Reads a trajectory.
 pub fn read_trajectory(form: Form, fields: &mut Fields<'_>) -> Result<Trajectory, Fault> {
     let pattern = form.pattern(fields)?;
