@@ -9,6 +9,7 @@ ghost use Rattle.magnus_graph_traj_steps.specs.StepsTaken.{RunStepsTaken};
 ghost use Rattle.magnus_graph_traj_run.specs.StepAt.{StepAt};
 
 use error::Refusal;
+use graph_rows::kernel::Pattern;
 use graph_traj_parts::kernel::CheckedTrajectory;
 use graph_traj_segment::kernel::Segment;
 use magnus_graph_traj_step::kernel::run_step;
@@ -29,14 +30,17 @@ pub fn step_at(
     let fraction1 = segment.fraction(segment.first_sample(t_start));
     let fraction2 = segment.fraction(segment.second_sample(t_start));
     let parts = trajectory.parts;
+    let pattern = Pattern {
+        n: parts.n,
+        row_ptr: parts.row_ptr,
+        col_idx: parts.col_idx,
+    };
     run_step(
-        parts.row_ptr,
-        parts.col_idx,
+        pattern,
         parts.laws[k],
         parts.starts,
         parts.ends,
         k,
-        parts.n,
         segment.tau,
         fraction1,
         fraction2,

@@ -13,6 +13,13 @@ sampled_step-requires-clause-literal c = refl
 pub returns-then-law-eq2 : goal.returns-then-law-eq2
 returns-then-law-eq2 c = taken-by-law c.args.law c.if-law-eq2.true c.sampled_step.ensures
 
+-- the list that the law names has a value for each column
+pub invariant_of-omega : goal.invariant_of-omega
+invariant_of-omega c =
+    let args = c.args in
+    let within = c.requires.within in
+    record { count = ap length c.law_list-vals.ensures ∙ length-law args.law args.k (length args.pattern.col_idx.now) _ _ within.0 within.1 }
+
 pub returns : goal.returns
 unfolding of_bits
 returns c =
