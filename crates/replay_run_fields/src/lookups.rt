@@ -1,16 +1,17 @@
 // The lookup of a segment: kinds 12 and, with breakpoints by rules, 16.
 use crate::rooms::times_room;
+use error::Refusal;
 use float_bits::from_bits;
-use graph_traj::{Located, segment_index};
+use graph_traj::segment_index;
 use replay_answers::{Answer, after_answer, answer_at, is_acceptance, is_refusal};
 use replay_fields::{ends, further, number64};
 use replay_trajectories::read_breakpoints;
 
 // Whether what `segment_index` answered is expected: the segment of that index, where the acceptance is.
-fn is_located(expected: Answer, index: u64, located: Located) -> bool {
+fn is_located(expected: Answer, index: u64, located: Result<usize, Refusal>) -> bool {
     match located {
-        Located::Segment(segment) => is_acceptance(expected) && segment as u64 == index,
-        Located::Refused(refusal) => is_refusal(expected, refusal),
+        Ok(segment) => is_acceptance(expected) && segment as u64 == index,
+        Err(refusal) => is_refusal(expected, refusal),
     }
 }
 
