@@ -3,6 +3,7 @@
 // times that, and work slices of up to 176,129 elements. A forward run has no τ, and an unweighted run has
 // no weights; neither call takes them.
 use error::Refusal;
+use graph_traj_parts::Trajectory;
 use magnus_graph_traj::{evolve_state_adjoint_into, evolve_with_traj_into};
 use replay_answers::answer_at;
 use replay_fields::{further, number64};
@@ -33,16 +34,19 @@ fn evolved<'a>(
     dst: &mut [f64],
     work: &mut [f64],
 ) -> Result<(), Refusal> {
+    let trajectory = Trajectory {
+        n,
+        row_ptr,
+        col_idx,
+        segments,
+        breakpoints,
+        starts,
+        ends,
+        laws,
+    };
     if is_forward(kind) {
         return evolve_with_traj_into(
-            n,
-            row_ptr,
-            col_idx,
-            segments,
-            breakpoints,
-            starts,
-            ends,
-            laws,
+            trajectory,
             numbers.steps,
             numbers.rho_bar_max,
             numbers.convergence_radius_check,
@@ -53,14 +57,7 @@ fn evolved<'a>(
     }
     if is_weighted(kind) {
         return varcoef_magnus_graph_adjoint::evolve_state_adjoint_into(
-            n,
-            row_ptr,
-            col_idx,
-            segments,
-            breakpoints,
-            starts,
-            ends,
-            laws,
+            trajectory,
             numbers.tau,
             numbers.steps,
             numbers.rho_bar_max,
@@ -74,14 +71,7 @@ fn evolved<'a>(
         );
     }
     evolve_state_adjoint_into(
-        n,
-        row_ptr,
-        col_idx,
-        segments,
-        breakpoints,
-        starts,
-        ends,
-        laws,
+        trajectory,
         numbers.tau,
         numbers.steps,
         numbers.rho_bar_max,
