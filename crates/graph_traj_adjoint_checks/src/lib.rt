@@ -24,7 +24,12 @@ pub fn check_adjoint_step_count(steps: usize) -> Result<(), Refusal>
 }
 
 // Rows 16, 7 and 8 of an adjoint run.
-pub fn check_adjoint_steps(steps: usize, tau: f64, bound: f64, radius_check: bool) -> Result<(), Refusal>
+pub fn check_adjoint_steps(
+    steps: usize,
+    tau: f64,
+    bound: f64,
+    radius_check: bool,
+) -> Result<(), Refusal>
     ensures { result ≡ adjoint_steps_fault steps tau bound radius_check }
 {
     check_adjoint_step_count(steps)?;

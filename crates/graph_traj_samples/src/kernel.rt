@@ -44,7 +44,13 @@ fn sample_pairs(
 }
 
 // Row 20 of one sample: a walk to the first value that is not finite.
-fn check_sample(starts: &[f64], ends: &[f64], k: usize, m: usize, fraction: f64) -> Result<(), Refusal>
+fn check_sample(
+    starts: &[f64],
+    ends: &[f64],
+    k: usize,
+    m: usize,
+    fraction: f64,
+) -> Result<(), Refusal>
     requires { (k ≤ 65535) × (m ≤ 65535) × (k * m + m ≤ length starts.now) × (k * m + m ≤ length ends.now) }
     ensures { let values = law_values m fraction (part (k * m) m starts.now) (part (k * m) m ends.now) in
         result ≡ sampled_fault values }

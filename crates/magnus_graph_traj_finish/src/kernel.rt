@@ -8,7 +8,12 @@ use scratch::kernel::{clear, store};
 
 // Where the steps of a run were all taken, dst becomes the signal that they left at 0 of the work slice; where one refused, dst stays as it was.
 // Either way the first `need` elements of the work slice become +0, and the run answers what its steps did.
-pub fn finish_run(taken: Result<(), Refusal>, work: &mut [f64], need: usize, dst: &mut [f64]) -> Result<(), Refusal>
+pub fn finish_run(
+    taken: Result<(), Refusal>,
+    work: &mut [f64],
+    need: usize,
+    dst: &mut [f64],
+) -> Result<(), Refusal>
     requires { (need ≤ length work.old) × (length dst.old ≤ length work.old) }
     ensures { let w = work.old in
         let out = dst.old in

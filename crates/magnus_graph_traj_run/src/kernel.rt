@@ -71,7 +71,11 @@ pub fn run_segment_steps(
 }
 
 // The steps of a forward run, segment by segment (`run_all_segments` of the Rust).
-pub fn run_all_segments(trajectory: CheckedTrajectory<'_>, steps: usize, work: &mut [f64]) -> Result<(), Refusal>
+pub fn run_all_segments(
+    trajectory: CheckedTrajectory<'_>,
+    steps: usize,
+    work: &mut [f64],
+) -> Result<(), Refusal>
     requires { (steps ≤ 65535) × (run_need (trajectory_of trajectory.parts) ≤ length work.old) }
     ensures { let t = trajectory_of trajectory.entry.parts in
         RunStepsTaken t (forward_course t.breakpoints t.segments steps) forward (all_steps steps t.segments) result

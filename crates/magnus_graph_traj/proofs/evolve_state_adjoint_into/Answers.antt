@@ -94,8 +94,7 @@ finish_run-requires c =
     let a = c.args in
     let given = lent a.trajectory a.steps a.rho_bar_max a.convergence_radius_check a.src.now a.dst.now a.work.now in
     let ok = adjoint-accepted a.tau given c.check_adjoint_run-checked.ensures c.in-Ok.is in
-    let some : 0 < a.steps = omega arith in
-    (
+    let some : 0 < a.steps = omega arith in (
       omega (arith, ok.room some, c.load.auto.work, c.run_adjoint_steps-taken.ensures.length-kept),
       omega (arith, ok.signals.output-length, ok.room some, c.load.auto.work, c.run_adjoint_steps-taken.ensures.length-kept),
     )

@@ -66,8 +66,7 @@ pub finish_run-requires : goal.finish_run-requires
 finish_run-requires c =
     let a = c.args in
     let given = lent a.trajectory a.steps a.rho_bar_max a.convergence_radius_check a.src.now a.dst.now a.work.now in
-    let ok = forward-accepted given c.check_run-checked.ensures c.in-Ok.is in
-    (
+    let ok = forward-accepted given c.check_run-checked.ensures c.in-Ok.is in (
       omega (arith, ok.room, c.load.auto.work, c.run_all_segments-taken.ensures.length-kept),
       omega (arith, ok.signals.output-length, ok.room, c.load.auto.work, c.run_all_segments-taken.ensures.length-kept),
     )

@@ -83,8 +83,7 @@ pub finish_run-requires : goal.finish_run-requires
 finish_run-requires c =
     let a = c.args in
     let ok = (weighted-adjoint-run-accepted _ _ _ _ _ _ _ _ _ _ _).0 (sym c.check_weighted_adjoint_run-checked.ensures ∙ c.in-Ok.is) in
-    let some : 0 < a.steps = omega arith in
-    (
+    let some : 0 < a.steps = omega arith in (
       omega (arith, ok.room some, c.load.auto.work, c.run_steps-taken.ensures.length-kept),
       omega (arith, ok.signals.output-length, ok.room some, c.load.auto.work, c.run_steps-taken.ensures.length-kept),
     )
