@@ -23,34 +23,41 @@ pub struct Answer {
     pub second: f64,
 }
 
-// A row in the struct.
+impl Answer {
+    // Nothing carried: what an accepted call answers that gives nothing but its answer.
+    const NOTHING: Answer = Answer {
+        number: 0,
+        counts: 0,
+        count: 0,
+        reals: 0,
+        first: 0.0,
+        second: 0.0,
+    };
+}
+
+// A row in the struct. This and the two functions below are no `From`: their names say what is told, which `Answer::from` does not.
 pub fn laid_out(row: Row) -> Answer
     ensures { result ≡ told row }
 {
     match row {
         Row::Count(number, value) => Answer {
-            number: number,
+            number,
             counts: 1,
             count: value as u64,
-            reals: 0,
-            first: 0.0,
-            second: 0.0,
+            ..Answer::NOTHING
         },
         Row::Real(number, value) => Answer {
-            number: number,
-            counts: 0,
-            count: 0,
+            number,
             reals: 1,
             first: value,
-            second: 0.0,
+            ..Answer::NOTHING
         },
         Row::Reals(number, first, second) => Answer {
-            number: number,
-            counts: 0,
-            count: 0,
+            number,
             reals: 2,
-            first: first,
-            second: second,
+            first,
+            second,
+            ..Answer::NOTHING
         },
     }
 }
@@ -67,14 +74,7 @@ pub fn checked(answer: Result<(), Refusal>) -> Answer
     ensures { result ≡ struct_of answer [] }
 {
     match answer {
-        Ok(()) => Answer {
-            number: 0,
-            counts: 0,
-            count: 0,
-            reals: 0,
-            first: 0.0,
-            second: 0.0,
-        },
+        Ok(()) => Answer::NOTHING,
         Err(refusal) => refused(refusal),
     }
 }

@@ -1,8 +1,8 @@
 // What a driver may call only with slices that a check has accepted.
 ghost use Rattle.std.specs.Prelude.{◌≡◌, length};
-ghost use Rattle.graph_checks.specs.Pattern.{Pattern};
+ghost use Rattle.graph_checks.specs.Pattern.{Pattern as IsPattern};
 
-use graph_rows::kernel::product;
+use graph_rows::kernel::{Pattern, Sample};
 
 // The row product alone, for a pattern that the caller has had checked.
 #[unsafe(no_mangle)]
@@ -13,9 +13,14 @@ pub extern "C" fn bench_product(
     src: &[f64],
     dst: &mut [f64],
 )
-    requires pattern { Pattern (length src.now) row_ptr.now col_idx.now }
+    requires pattern { IsPattern (length src.now) row_ptr.now col_idx.now }
     requires vals_len { length vals.now ≡ length col_idx.now }
     requires dst_len { length dst.old ≡ length src.now }
 {
-    product(row_ptr, col_idx, vals, src, dst);
+    let pattern = Pattern {
+        n: src.len(),
+        row_ptr,
+        col_idx,
+    };
+    Sample { pattern, vals }.product(src, dst);
 }

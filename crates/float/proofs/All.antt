@@ -5,16 +5,23 @@ use mathlib.Core.Bool.{Bool, true, false, ◌&&◌, and-true, and_assoc, and_com
 use mathlib.Core.List.{List, [], ◌∷◌, ◌++◌}
 use Prim.Native.Nat.{ℕ, ◌+◌, ◌≤◌, ◌<◌}
 use native.Mathlib.Numerals.{add-one}
+use native.Mathlib.Omega.{arith}
 use lib.ListN.{length, get_or, take, drop, take-append-drop}
 use lib.Seq.{take-suc, take_all, take-add}
+use Rattle.std.specs.List.{zip}
 use Rattle.float.specs.All.{all}
 
 module _ {A : Type 0} (p : A → Bool) where
-  all_append : (xs ys : List A) → all p (xs ++ ys) ≡ (all p xs && all p ys)
+  pub all_append : (xs ys : List A) → all p (xs ++ ys) ≡ (all p xs && all p ys)
   unfolding all
   all_append [] ys = refl
   all_append (x ∷ xs) ys =
       ap (λ (b : Bool). p x && b) (all_append xs ys) ∙ sym (and_assoc (p x) (all p xs) (all p ys))
+
+  -- of one element more
+  pub all_push : (xs : List A) (x : A) → all p (xs ++ (x ∷ [])) ≡ (all p xs && p x)
+  unfolding all
+  all_push xs x = all_append xs (x ∷ []) ∙ ap (λ (b : Bool). all p xs && b) (and-true (p x))
 
   -- of no element
   pub all-of-none : true ≡ all p []
@@ -45,17 +52,16 @@ module _ {A : Type 0} (p : A → Bool) where
   exchange true false c d = sym (and_comm c false)
   exchange false b c d = refl
 
-  -- of one element more of each: the answer so far is b, and the elements at place k have the answer t
-  pub all-more-two : (xs ys : List A) (d : A) (k : ℕ) (b t : Bool)
-      → k < length xs
-      → k < length ys
-      → b ≡ (all p (take k xs) && all p (take k ys))
-      → t ≡ (p (get_or xs k d) && p (get_or ys k d))
-      → (b && t) ≡ (all p (take (k + 1) xs) && all p (take (k + 1) ys))
-  all-more-two xs ys d k b t l m e f =
-      ap₂ ◌&&◌ e f
-      ∙ exchange (all p (take k xs)) (all p (take k ys)) (p (get_or xs k d)) (p (get_or ys k d))
-      ∙ ap₂ ◌&&◌ (all_more xs d k _ _ l refl refl) (all_more ys d k _ _ m refl refl)
+  -- of two lists at once, by pairs
+  pub all-of-pairs : (xs ys : List A) → length xs ≡ length ys
+      → all (λ (pair : A × A). p pair.0 && p pair.1) (zip xs ys) ≡ (all p xs && all p ys)
+  unfolding all
+  all-of-pairs [] [] e = refl
+  all-of-pairs [] (y ∷ ys) e = absurd (omega arith)
+  all-of-pairs (x ∷ xs) [] e = absurd (omega arith)
+  all-of-pairs (x ∷ xs) (y ∷ ys) e =
+      ap (λ (b : Bool). p x && p y && b) (all-of-pairs xs ys (omega arith))
+      ∙ exchange (p x) (p y) (all p xs) (all p ys)
 
   -- of the first n + m elements of a list and of those from n on: that of all of them
   pub all-overlapping : (xs : List A) (n m : ℕ) → (all p (take (n + m) xs) && all p (drop n xs)) ≡ all p xs

@@ -27,9 +27,8 @@ pub fn all_finite(values: &[f64]) -> bool
 {
     let second = values.len() / 2;
     let half = values.len() - second;
-    let mut passed = true;
-    for k in 0..half {
-        passed = passed & both_finite(values[k], values[second + k]);
-    }
-    passed
+    values[..half]
+        .iter()
+        .zip(values[second..].iter())
+        .fold(true, |passed, (x, y)| passed & both_finite(*x, *y))
 }

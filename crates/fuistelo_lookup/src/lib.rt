@@ -9,7 +9,7 @@ ghost use Rattle.graph_traj_breakpoints.specs.LookupChecks.{lookup_fault};
 ghost use Rattle.answer.specs.Struct.{struct_of};
 
 use answer::{Answer, laid_out, refused};
-use graph_traj::{Located, segment_index};
+use graph_traj::segment_index;
 use refusal_rows::Row;
 
 // The segment in which t lies: where it is accepted, its one count.
@@ -19,7 +19,7 @@ pub extern "C" fn fuistelo_segment_index(segments: usize, breakpoints: &[f64], t
         (count (segment_at segments breakpoints.now t) ∷ []) }
 {
     match segment_index(segments, breakpoints, t) {
-        Located::Segment(segment) => laid_out(Row::Count(0, segment)),
-        Located::Refused(refusal) => refused(refusal),
+        Ok(segment) => laid_out(Row::Count(0, segment)),
+        Err(refusal) => refused(refusal),
     }
 }

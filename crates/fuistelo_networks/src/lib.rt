@@ -10,7 +10,7 @@ ghost use Rattle.graph_checks.specs.PatternChecks.{pattern_fault, csr_fault};
 ghost use Rattle.answer.specs.Struct.{struct_of, Tells};
 
 use answer::{Answer, checked, laid_out, refused};
-use graph::{Bounded, check_pattern, from_csr_parts, gershgorin_bound_csr};
+use graph::{CsrParts, check_pattern, from_csr_parts, gershgorin_bound_csr};
 use refusal_rows::Row;
 
 // Whether the parts make up a Laplacian.
@@ -23,7 +23,13 @@ pub extern "C" fn fuistelo_from_csr_parts(
 ) -> Answer
     ensures { Tells result (λ answer. Answers answer (csr_fault n row_ptr.now col_idx.now vals.now)) }
 {
-    checked(from_csr_parts(n, row_ptr, col_idx, vals))
+    let parts = CsrParts {
+        n,
+        row_ptr,
+        col_idx,
+        vals,
+    };
+    checked(from_csr_parts(parts))
 }
 
 // The same of row starts and columns alone.
@@ -45,8 +51,14 @@ pub extern "C" fn fuistelo_gershgorin_bound_csr(
     ensures { result ≡ struct_of (csr_fault n row_ptr.now col_idx.now vals.now)
         (real (gershgorin_bound binary64 row_ptr.now vals.now) ∷ []) }
 {
-    match gershgorin_bound_csr(n, row_ptr, col_idx, vals) {
-        Bounded::Bound(bound) => laid_out(Row::Real(0, bound)),
-        Bounded::Refused(refusal) => refused(refusal),
+    let parts = CsrParts {
+        n,
+        row_ptr,
+        col_idx,
+        vals,
+    };
+    match gershgorin_bound_csr(parts) {
+        Ok(bound) => laid_out(Row::Real(0, bound)),
+        Err(refusal) => refused(refusal),
     }
 }

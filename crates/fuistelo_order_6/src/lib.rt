@@ -7,6 +7,7 @@ ghost use Rattle.magnus6_graph_outcome.specs.StepOutcome.{step6_input, Stepped6}
 ghost use Rattle.answer.specs.Struct.{Tells};
 
 use answer::{Answer, checked};
+use graph_checks::CsrParts;
 use magnus6_graph::apply_exp_omega6_kernel;
 
 // The step of order 6.
@@ -38,19 +39,28 @@ pub extern "C" fn fuistelo_apply_exp_omega6_kernel(
         tau rho_bar_max convergence_radius_check src.now dst.old work.old)
         answer dst.new work.new) }
 {
+    let first = CsrParts {
+        n: n1,
+        row_ptr: row_ptr1,
+        col_idx: col_idx1,
+        vals: vals1,
+    };
+    let second = CsrParts {
+        n: n2,
+        row_ptr: row_ptr2,
+        col_idx: col_idx2,
+        vals: vals2,
+    };
+    let third = CsrParts {
+        n: n3,
+        row_ptr: row_ptr3,
+        col_idx: col_idx3,
+        vals: vals3,
+    };
     checked(apply_exp_omega6_kernel(
-        n1,
-        row_ptr1,
-        col_idx1,
-        vals1,
-        n2,
-        row_ptr2,
-        col_idx2,
-        vals2,
-        n3,
-        row_ptr3,
-        col_idx3,
-        vals3,
+        first,
+        second,
+        third,
         tau,
         rho_bar_max,
         convergence_radius_check,

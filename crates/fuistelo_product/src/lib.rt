@@ -8,7 +8,7 @@ ghost use Rattle.graph.specs.ProductOutcome.{product_outcome};
 ghost use Rattle.answer.specs.Struct.{Tells};
 
 use answer::{Answer, checked};
-use graph::apply_into_slice;
+use graph::{CsrParts, apply_into_slice};
 
 // The row product.
 #[unsafe(no_mangle)]
@@ -25,5 +25,11 @@ pub extern "C" fn fuistelo_apply_into_slice(
     ensures output { let outcome = product_outcome n row_ptr.now col_idx.now vals.now
         src.now dst.old in dst.new ≡ outcome.output }
 {
-    checked(apply_into_slice(n, row_ptr, col_idx, vals, src, dst))
+    let parts = CsrParts {
+        n,
+        row_ptr,
+        col_idx,
+        vals,
+    };
+    checked(apply_into_slice(parts, src, dst))
 }

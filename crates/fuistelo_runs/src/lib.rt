@@ -7,6 +7,7 @@ ghost use Rattle.magnus_graph_traj_outcome.specs.RunOutcome.{forward_run, adjoin
 ghost use Rattle.answer.specs.Struct.{Tells};
 
 use answer::{Answer, checked};
+use graph_traj_parts::Trajectory;
 use magnus_graph_traj::{evolve_state_adjoint_into, evolve_with_traj_into};
 
 // The forward run.
@@ -33,14 +34,16 @@ pub extern "C" fn fuistelo_evolve_with_traj_into<'a>(
         answer dst.new work.new) }
 {
     checked(evolve_with_traj_into(
-        n,
-        row_ptr,
-        col_idx,
-        segments,
-        breakpoints,
-        starts,
-        ends,
-        laws,
+        Trajectory {
+            n,
+            row_ptr,
+            col_idx,
+            segments,
+            breakpoints,
+            starts,
+            ends,
+            laws,
+        },
         steps,
         rho_bar_max,
         convergence_radius_check,
@@ -75,14 +78,16 @@ pub extern "C" fn fuistelo_evolve_state_adjoint_into<'a>(
         answer dst.new work.new) }
 {
     checked(evolve_state_adjoint_into(
-        n,
-        row_ptr,
-        col_idx,
-        segments,
-        breakpoints,
-        starts,
-        ends,
-        laws,
+        Trajectory {
+            n,
+            row_ptr,
+            col_idx,
+            segments,
+            breakpoints,
+            starts,
+            ends,
+            laws,
+        },
         tau,
         steps,
         rho_bar_max,

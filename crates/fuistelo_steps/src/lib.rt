@@ -7,6 +7,7 @@ ghost use Rattle.magnus_graph_outcome.specs.StepOutcome.{step_input, Stepped, fo
 ghost use Rattle.answer.specs.Struct.{Tells};
 
 use answer::{Answer, checked};
+use graph_checks::CsrParts;
 use magnus_graph::{apply_exp_omega4_adj_kernel, apply_exp_omega4_kernel};
 
 // The forward step of order 4.
@@ -33,15 +34,21 @@ pub extern "C" fn fuistelo_apply_exp_omega4_kernel(
         tau rho_bar_max convergence_radius_check src.now dst.old work.old)
         answer dst.new work.new) }
 {
+    let first = CsrParts {
+        n: n1,
+        row_ptr: row_ptr1,
+        col_idx: col_idx1,
+        vals: vals1,
+    };
+    let second = CsrParts {
+        n: n2,
+        row_ptr: row_ptr2,
+        col_idx: col_idx2,
+        vals: vals2,
+    };
     checked(apply_exp_omega4_kernel(
-        n1,
-        row_ptr1,
-        col_idx1,
-        vals1,
-        n2,
-        row_ptr2,
-        col_idx2,
-        vals2,
+        first,
+        second,
         tau,
         rho_bar_max,
         convergence_radius_check,
@@ -75,15 +82,21 @@ pub extern "C" fn fuistelo_apply_exp_omega4_adj_kernel(
         tau rho_bar_max convergence_radius_check src.now dst.old work.old)
         answer dst.new work.new) }
 {
+    let first = CsrParts {
+        n: n1,
+        row_ptr: row_ptr1,
+        col_idx: col_idx1,
+        vals: vals1,
+    };
+    let second = CsrParts {
+        n: n2,
+        row_ptr: row_ptr2,
+        col_idx: col_idx2,
+        vals: vals2,
+    };
     checked(apply_exp_omega4_adj_kernel(
-        n1,
-        row_ptr1,
-        col_idx1,
-        vals1,
-        n2,
-        row_ptr2,
-        col_idx2,
-        vals2,
+        first,
+        second,
         tau,
         rho_bar_max,
         convergence_radius_check,

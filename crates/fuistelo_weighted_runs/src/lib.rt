@@ -8,6 +8,7 @@ ghost use Rattle.varcoef_magnus_graph_adjoint.specs.WeightedRunOutcome.{weighted
 ghost use Rattle.answer.specs.Struct.{Tells};
 
 use answer::{Answer, checked};
+use graph_traj_parts::Trajectory;
 use varcoef_magnus_graph_adjoint::evolve_state_adjoint_into;
 
 // The adjoint run with node weights.
@@ -39,14 +40,16 @@ pub extern "C" fn fuistelo_varcoef_evolve_state_adjoint_into<'a>(
         answer dst.new work.new) }
 {
     checked(evolve_state_adjoint_into(
-        n,
-        row_ptr,
-        col_idx,
-        segments,
-        breakpoints,
-        starts,
-        ends,
-        laws,
+        Trajectory {
+            n,
+            row_ptr,
+            col_idx,
+            segments,
+            breakpoints,
+            starts,
+            ends,
+            laws,
+        },
         tau,
         steps,
         rho_bar_max,

@@ -8,6 +8,7 @@ ghost use Rattle.varcoef_magnus_graph_outcome.specs.StepOutcome.{step_input, Ste
 ghost use Rattle.answer.specs.Struct.{Tells};
 
 use answer::{Answer, checked};
+use graph_checks::CsrParts;
 use varcoef_magnus_graph::{apply_exp_omega4_la_adj_kernel, apply_exp_omega4_la_kernel};
 
 // The forward weighted step.
@@ -38,15 +39,21 @@ pub extern "C" fn fuistelo_apply_exp_omega4_la_kernel(
         src.now dst.old work.old)
         answer dst.new work.new) }
 {
+    let first = CsrParts {
+        n: n1,
+        row_ptr: row_ptr1,
+        col_idx: col_idx1,
+        vals: vals1,
+    };
+    let second = CsrParts {
+        n: n2,
+        row_ptr: row_ptr2,
+        col_idx: col_idx2,
+        vals: vals2,
+    };
     checked(apply_exp_omega4_la_kernel(
-        n1,
-        row_ptr1,
-        col_idx1,
-        vals1,
-        n2,
-        row_ptr2,
-        col_idx2,
-        vals2,
+        first,
+        second,
         tau,
         rho_bar_max,
         a_sup_max,
@@ -87,15 +94,21 @@ pub extern "C" fn fuistelo_apply_exp_omega4_la_adj_kernel(
         src.now dst.old work.old)
         answer dst.new work.new) }
 {
+    let first = CsrParts {
+        n: n1,
+        row_ptr: row_ptr1,
+        col_idx: col_idx1,
+        vals: vals1,
+    };
+    let second = CsrParts {
+        n: n2,
+        row_ptr: row_ptr2,
+        col_idx: col_idx2,
+        vals: vals2,
+    };
     checked(apply_exp_omega4_la_adj_kernel(
-        n1,
-        row_ptr1,
-        col_idx1,
-        vals1,
-        n2,
-        row_ptr2,
-        col_idx2,
-        vals2,
+        first,
+        second,
         tau,
         rho_bar_max,
         a_sup_max,

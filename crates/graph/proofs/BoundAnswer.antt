@@ -3,12 +3,12 @@ use mathlib.Core.Path.{◌≡◌, sym, ap, ◌∙◌}
 use Prim.Native.Nat.{ℕ}
 use native.Mathlib.Omega.{arith}
 use lib.Ieee.{Float}
+use Rattle.std.specs.Prelude.{Ok, Err}
 use Rattle.error.specs.declared.Refusal.{Refusal}
 use Rattle.error.specs.Answer.{Checked}
 use Rattle.error.specs.Answer.{Accepted, Refused}
 use Rattle.error.specs.Refusals.{Answers}
 use Rattle.error.proofs.Left.{answers, answers-accepted, fault-is}
-use Rattle.graph.specs.declared.Bounded.TheVariants as bounded
 use Rattle.graph.specs.BoundAnswer.{BoundAnswers, check_of}
 
 -- the check accepts, and x is the bound
@@ -16,15 +16,15 @@ pub bound-given : {check fault : Checked} {bound x : Float}
     → Answers check fault
     → check ≡ Accepted
     → x ≡ bound
-    → BoundAnswers (bounded.Bound x) fault bound
+    → BoundAnswers (Ok x) fault bound
 unfolding check_of
-bound-given h p e = record { refusal = answers-accepted h p; given = λ q. ap bounded.Bound e }
+bound-given h p e = record { refusal = answers-accepted h p; given = λ q. ap Ok e }
 
 -- the check refuses, and so does the call
 pub bound-refused : {check fault : Checked} {bound : Float} {r : Refusal}
     → Answers check fault
     → check ≡ Refused r
-    → BoundAnswers (bounded.Refused r) fault bound
+    → BoundAnswers (Err r) fault bound
 unfolding check_of
 bound-refused {r = r} h p = record {
   refusal = answers (sym p ∙ fault-is h);

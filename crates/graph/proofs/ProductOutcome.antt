@@ -1,5 +1,5 @@
 -- The answer of the row product, from what its three checks answered, and what the checks have shown where all accept. Assumes nothing.
-use mathlib.Core.Path.{◌≡◌, sym, ap, ◌∙◌, subst}
+use mathlib.Core.Path.{◌≡◌}
 use mathlib.Core.List.{List}
 use Prim.Native.Nat.{ℕ}
 use lib.ListN.{length}
@@ -11,10 +11,9 @@ use Rattle.error.specs.Lengths.{length_fault}
 use Rattle.error.specs.Refusals.{Answers}
 use Rattle.error.proofs.Checks.{refused-here, accepted-then, length-accepted}
 use Rattle.error.proofs.Left.{answers, fault-is, fault-accepted}
-use Rattle.graph_checks.specs.Pattern.{Pattern, Laplacian}
+use Rattle.graph_checks.specs.Pattern.{Laplacian}
 use Rattle.graph_checks.specs.PatternChecks.{csr_fault}
 use Rattle.graph.specs.ProductOutcome.{product_fault}
-use Rattle.graph_rows.specs.RowProduct.{row_product64}
 use Rattle.graph_checks.proofs.Sound.{csr-accepted}
 
 -- what a checked Laplacian has
@@ -52,17 +51,3 @@ module _ (n : ℕ) (starts cols : List ℕ) (vals signal output : List Float) wh
 -- lengths that were accepted
 pub length-is : {check : Checked} (l n : ℕ) → Answers check (length_fault l n) → check ≡ Accepted → l ≡ n
 length-is l n h p = (length-accepted l n).0 (fault-accepted h p)
-
--- what the product asks: the pattern of as many nodes as the signal has, a value for each column, an output as long as the signal
-pub product-asks : (n l o : ℕ) (starts cols : List ℕ) (vals : List Float)
-    → Laplacian n starts cols vals
-    → l ≡ n
-    → o ≡ n
-    → Pattern l starts cols × (length vals ≡ length cols × (o ≡ l))
-product-asks n l o starts cols vals h p q = (subst (λ (k : ℕ). Pattern k starts cols) (sym p) h.pattern, (h.count, q ∙ sym p))
-
-pub product-of : {x : List Float} (n : ℕ) (starts cols : List ℕ) (vals signal : List Float)
-    → length signal ≡ n
-    → x ≡ row_product64 (length signal) starts cols vals signal
-    → x ≡ row_product64 n starts cols vals signal
-product-of n starts cols vals signal p e = e ∙ ap (λ (k : ℕ). row_product64 k starts cols vals signal) p

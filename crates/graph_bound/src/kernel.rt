@@ -11,9 +11,8 @@ fn row_absolute_sum(row_ptr: &[usize], vals: &[f64], i: usize) -> f64
     ensures { result ≡ row_absolute_sum binary64 row_ptr.now vals.now i }
 {
     let mut row_sum = 0.0;
-    for k in row_ptr[i]..row_ptr[i + 1] {
-        let v = vals[k];
-        let av = if v < 0.0 { 0.0 - v } else { v };
+    for v in &vals[row_ptr[i]..row_ptr[i + 1]] {
+        let av = if *v < 0.0 { 0.0 - *v } else { *v };
         row_sum = row_sum + av;
     }
     row_sum

@@ -15,8 +15,8 @@ fn columns_inside(n: usize, col_idx: &[u32]) -> bool
 {
     let nodes = n as u32;
     let mut passed = true;
-    for k in 0..col_idx.len() {
-        passed = passed & (col_idx[k] < nodes);
+    for column in col_idx {
+        passed = passed & (*column < nodes);
     }
     passed
 }

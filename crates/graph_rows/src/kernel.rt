@@ -2,6 +2,8 @@
 ghost use Rattle.std.specs.Prelude.{◌≡◌, ◌<◌, length};
 ghost use Rattle.graph_checks.specs.Pattern.{Pattern as IsPattern};
 
+use graph_checks::CsrParts;
+
 // A pattern: n nodes, n + 1 row starts, and a column for each entry. The checks have accepted all of it: n is at most 4,096, and every column is
 // below n.
 #[derive(Clone, Copy)]
@@ -21,7 +23,26 @@ pub struct Sample<'a> {
 }
 
 impl<'a> Sample<'a> {
+    ghost use Rattle.graph_checks.specs.Pattern.{ValuedPattern};
+    ghost use Rattle.graph_rows.specs.RowProduct.{row_product64};
     ghost use Rattle.graph_rows.specs.Product.{row_sum_of, product_of};
+
+    // The sample of parts that have been checked.
+    pub fn from_parts(parts: CsrParts<'a>) -> Sample<'a>
+        requires { ValuedPattern parts.n parts.row_ptr.now parts.col_idx.now parts.vals.now }
+        ensures nodes { result.pattern.n ≡ parts.entry.n }
+        ensures product { let p = parts.entry in
+            product_of result ≡ row_product64 p.n p.row_ptr.now p.col_idx.now p.vals.now }
+    {
+        Sample {
+            pattern: Pattern {
+                n: parts.n,
+                row_ptr: parts.row_ptr,
+                col_idx: parts.col_idx,
+            },
+            vals: parts.vals,
+        }
+    }
 
     // Row i of the product with src (01, part 1): it starts at +0 and adds value * signal[column] in stored order. Every
     // product with one sample goes through this function.

@@ -9,22 +9,12 @@ use error::Refusal;
 
 pub mod kernel;
 
-// What `segment_index` answers: the segment, or why there is none.
-#[derive(Clone, Copy)]
-pub enum Located {
-    Segment(usize),
-    Refused(Refusal),
-}
-
 // The segment in which t lies: segment i goes from breakpoint i up to breakpoint i + 1, which belongs to the next one, but the last
 // breakpoint belongs to the last segment. Rows 13, 14 for the breakpoints, 15 and 18.
-pub fn segment_index(segments: usize, breakpoints: &[f64], t: f64) -> Located
+pub fn segment_index(segments: usize, breakpoints: &[f64], t: f64) -> Result<usize, Refusal>
     ensures { LookupAnswers result (lookup_fault segments breakpoints.now t)
         (segment_at segments breakpoints.now t) }
 {
-    let checked = graph_traj_breakpoints::check_lookup(segments, breakpoints, t);
-    let Err(refusal) = checked else {
-        return Located::Segment(kernel::segment_index_binary(segments, breakpoints, t));
-    };
-    Located::Refused(refusal)
+    graph_traj_breakpoints::check_lookup(segments, breakpoints, t)?;
+    Ok(kernel::segment_index_binary(segments, breakpoints, t))
 }

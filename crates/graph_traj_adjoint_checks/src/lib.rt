@@ -3,13 +3,13 @@
 #![tactic(auto)]
 
 ghost use Rattle.std.specs.Prelude.{◌≡◌};
-ghost use Rattle.graph_traj_parts.specs.Trajectory.{trajectory};
+ghost use Rattle.graph_traj_parts.specs.Trajectory.{trajectory_of};
 ghost use Rattle.graph_traj_adjoint_faults.specs.AdjointRunChecks.{adjoint_step_count_fault};
 ghost use Rattle.graph_traj_adjoint_faults.specs.AdjointRunChecks.{adjoint_steps_fault, adjoint_run_fault};
 
 use error::Refusal;
 use graph_traj_checks::check::{check_run_lengths, check_signals};
-use graph_traj_parts::check_adjoint_trajectory;
+use graph_traj_parts::{Trajectory, check_adjoint_trajectory};
 use magnus_graph_checks::{check_bound, check_step_length};
 
 // Row 16 of an adjoint run: there are at most 65,535 steps.
@@ -33,14 +33,7 @@ pub fn check_adjoint_steps(steps: usize, tau: f64, bound: f64, radius_check: boo
 
 // All checks of an adjoint run of so many steps of length tau.
 pub fn check_adjoint_run(
-    n: usize,
-    row_ptr: &[usize],
-    col_idx: &[u32],
-    segments: usize,
-    breakpoints: &[f64],
-    starts: &[f64],
-    ends: &[f64],
-    laws: &[u8],
+    trajectory: Trajectory<'_>,
     tau: f64,
     steps: usize,
     rho_bar_max: f64,
@@ -49,24 +42,15 @@ pub fn check_adjoint_run(
     output: usize,
     work: usize,
 ) -> Result<(), Refusal>
-    ensures { result ≡ adjoint_run_fault (trajectory n row_ptr.now col_idx.now segments
-        breakpoints.now starts.now ends.now laws.now)
+    ensures { result ≡ adjoint_run_fault (trajectory_of trajectory.entry)
         tau steps rho_bar_max radius_check signal output work }
 {
-    check_adjoint_trajectory(
-        n,
-        row_ptr,
-        col_idx,
-        segments,
-        breakpoints,
-        starts,
-        ends,
-        laws,
-    )?;
+    check_adjoint_trajectory(trajectory)?;
     check_bound(rho_bar_max)?;
     if steps == 0 {
-        return check_signals(n, signal, output);
+        return check_signals(trajectory.n, signal, output);
     }
     check_adjoint_steps(steps, tau, rho_bar_max, radius_check)?;
-    check_run_lengths(n, signal, output, work, 7 * n + 2 * col_idx.len())
+    let need = 7 * trajectory.n + 2 * trajectory.col_idx.len();
+    check_run_lengths(trajectory.n, signal, output, work, need)
 }

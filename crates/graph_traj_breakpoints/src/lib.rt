@@ -21,7 +21,7 @@ fn is_rising(breakpoints: &[f64], i: usize) -> bool
     is_finite & (breakpoints[i - 1] < x)
 }
 
-// Row 15: every breakpoint is finite and above its predecessor.
+// Row 15: every breakpoint is finite and above its predecessor. By index, since each is compared with the one before it.
 pub fn check_breakpoints(breakpoints: &[f64]) -> Result<(), Refusal>
     ensures { result ≡ breakpoints_fault breakpoints.now }
 {

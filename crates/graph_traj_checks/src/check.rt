@@ -1,11 +1,11 @@
 // The checks of the forward run. Every function answers what its definition in specs/RunChecks.antt says, for all inputs.
 ghost use Rattle.std.specs.Prelude.{◌≡◌, ◌≤◌};
 ghost use Rattle.graph_traj_breakpoints.specs.Breakpoints.{Breakpoints};
-ghost use Rattle.graph_traj_parts.specs.Trajectory.{trajectory};
+ghost use Rattle.graph_traj_parts.specs.Trajectory.{trajectory_of};
 ghost use Rattle.graph_traj_faults.specs.RunChecks.{step_count_fault, segments_radius_fault, signals_fault, run_lengths_fault, run_fault};
 
 use error::{Refusal, check_length};
-use graph_traj_parts::{check_first_breakpoint, check_trajectory};
+use graph_traj_parts::{Trajectory, check_first_breakpoint, check_trajectory};
 use graph_traj_segment::kernel::Segment;
 use magnus_graph_checks::{check_bound, check_radius, check_room};
 
@@ -62,14 +62,7 @@ pub fn check_run_lengths(
 
 // All checks of a forward run. rho_bar_max is the spectral bound; signal, output and work are lengths.
 pub fn check_run(
-    n: usize,
-    row_ptr: &[usize],
-    col_idx: &[u32],
-    segments: usize,
-    breakpoints: &[f64],
-    starts: &[f64],
-    ends: &[f64],
-    laws: &[u8],
+    trajectory: Trajectory<'_>,
     steps: usize,
     rho_bar_max: f64,
     radius_check: bool,
@@ -77,23 +70,20 @@ pub fn check_run(
     output: usize,
     work: usize,
 ) -> Result<(), Refusal>
-    ensures { result ≡ run_fault (trajectory n row_ptr.now col_idx.now segments
-        breakpoints.now starts.now ends.now laws.now)
+    ensures { result ≡ run_fault (trajectory_of trajectory.entry)
         steps rho_bar_max radius_check signal output work }
 {
-    check_trajectory(
-        n,
-        row_ptr,
-        col_idx,
-        segments,
-        breakpoints,
-        starts,
-        ends,
-        laws,
-    )?;
+    check_trajectory(trajectory)?;
     check_bound(rho_bar_max)?;
     check_step_count(steps)?;
-    check_first_breakpoint(breakpoints[0])?;
-    check_run_lengths(n, signal, output, work, 7 * n + 2 * col_idx.len())?;
-    check_segments_radius(radius_check, rho_bar_max, steps, breakpoints, segments)
+    check_first_breakpoint(trajectory.breakpoints[0])?;
+    let need = 7 * trajectory.n + 2 * trajectory.col_idx.len();
+    check_run_lengths(trajectory.n, signal, output, work, need)?;
+    check_segments_radius(
+        radius_check,
+        rho_bar_max,
+        steps,
+        trajectory.breakpoints,
+        trajectory.segments,
+    )
 }

@@ -13,10 +13,9 @@ use error::Refusal;
 pub fn check_laws(laws: &[u8]) -> Result<(), Refusal>
     ensures { result ≡ laws_fault laws.now }
 {
-    for k in 0..laws.len() {
-        let law = laws[k] as usize;
+    for &law in laws {
         if law > 2 {
-            return Err(Refusal::Law(law));
+            return Err(Refusal::Law(law as usize));
         }
     }
     Ok(())
@@ -26,14 +25,12 @@ pub fn check_laws(laws: &[u8]) -> Result<(), Refusal>
 pub fn first_not_finite(values: &[f64]) -> usize
     ensures { result ≡ first (not_finite_at values.now) (length values.now) }
 {
-    let mut k = 0;
-    while k < values.len() {
-        if !float::is_finite(values[k]) {
+    for (k, value) in values.iter().enumerate() {
+        if !float::is_finite(*value) {
             return k;
         }
-        k += 1;
     }
-    k
+    values.len()
 }
 
 // Row 5, of one pool: every value is finite. An accepted pool costs one walk that only finds out whether there is a fault.

@@ -6,6 +6,7 @@ use Rattle.std.specs.Float.Ieee.{eq, of_bits}
 use Rattle.std.specs.Float.Ieee.Scale.{finite}
 use Rattle.graph_checks.specs.Pattern.{Pattern}
 use Rattle.graph_traj_breakpoints.specs.Breakpoints.{breakpoint, Breakpoints}
+use Rattle.graph_traj_parts.specs.declared.Trajectory.{Trajectory as LentTrajectory}
 
 -- One pattern for all segments, the breakpoints between them, and for each segment a start list and an end list, one value for each
 -- column, and a law. The start lists stand one after the other in one pool, and so do the end lists.
@@ -30,6 +31,11 @@ trajectory n row_starts cols segments breakpoints starts ends laws = record {
   ends = ends;
   laws = laws;
 }
+
+-- the trajectory that a caller lends
+abbrev pub trajectory_of : LentTrajectory → Trajectory
+trajectory_of t =
+    trajectory t.n t.row_ptr.now t.col_idx.now t.segments t.breakpoints.now t.starts.now t.ends.now t.laws.now
 
 -- ---- what an accepted trajectory has
 

@@ -3,7 +3,7 @@
 #![tactic(auto)]
 
 ghost use Rattle.std.specs.Prelude.{◌≡◌};
-ghost use Rattle.graph_traj_parts.specs.Trajectory.{trajectory};
+ghost use Rattle.graph_traj_parts.specs.Trajectory.{trajectory_of};
 ghost use Rattle.graph_traj_parts.specs.TrajectoryChecks.{first_breakpoint_fault, one_segment_fault};
 ghost use Rattle.graph_traj_parts.specs.TrajectoryChecks.{trajectory_fault, adjoint_trajectory_fault};
 
@@ -12,6 +12,23 @@ use graph_traj_breakpoints::check_breakpoints;
 use graph_traj_counts::check_segment_count;
 use graph_traj_counts::kernel::check_counts;
 use graph_traj_lists::check_lists;
+
+pub mod kernel;
+
+// What a run is lent of its trajectory: a pattern of n nodes for all segments, the breakpoints between them, and for each segment a start
+// list and an end list, one value for each column, and a law. The start lists stand one after the other in `starts`, and so do the end lists
+// in `ends`. Nothing of it has been checked.
+#[derive(Clone, Copy)]
+pub struct Trajectory<'a> {
+    pub n: usize,
+    pub row_ptr: &'a [usize],
+    pub col_idx: &'a [u32],
+    pub segments: usize,
+    pub breakpoints: &'a [f64],
+    pub starts: &'a [f64],
+    pub ends: &'a [f64],
+    pub laws: &'a [u8],
+}
 
 // Row 13 of an adjoint run: there is one segment.
 pub fn check_one_segment(segments: usize) -> Result<(), Refusal>
@@ -36,58 +53,38 @@ pub fn check_first_breakpoint(first: f64) -> Result<(), Refusal>
 }
 
 // The trajectory of a forward run: rows 6 and 1 to 4, 13, 14, 15, 19, 5.
-pub fn check_trajectory(
-    n: usize,
-    row_ptr: &[usize],
-    col_idx: &[u32],
-    segments: usize,
-    breakpoints: &[f64],
-    starts: &[f64],
-    ends: &[f64],
-    laws: &[u8],
-) -> Result<(), Refusal>
-    ensures { result ≡ trajectory_fault (trajectory n row_ptr.now col_idx.now segments
-        breakpoints.now starts.now ends.now laws.now) }
+pub fn check_trajectory(trajectory: Trajectory<'_>) -> Result<(), Refusal>
+    ensures { result ≡ trajectory_fault (trajectory_of trajectory.entry) }
 {
-    graph_checks::check_pattern(n, row_ptr, col_idx)?;
-    check_segment_count(segments)?;
+    graph_checks::check_pattern(trajectory.n, trajectory.row_ptr, trajectory.col_idx)?;
+    check_segment_count(trajectory.segments)?;
     check_counts(
-        segments,
-        col_idx.len(),
-        breakpoints.len(),
-        starts.len(),
-        ends.len(),
-        laws.len(),
+        trajectory.segments,
+        trajectory.col_idx.len(),
+        trajectory.breakpoints.len(),
+        trajectory.starts.len(),
+        trajectory.ends.len(),
+        trajectory.laws.len(),
     )?;
-    check_breakpoints(breakpoints)?;
-    check_lists(laws, starts, ends)
+    check_breakpoints(trajectory.breakpoints)?;
+    check_lists(trajectory.laws, trajectory.starts, trajectory.ends)
 }
 
 // The trajectory of an adjoint run, one segment from 0: rows 6 and 1 to 4, 13, 14, 15, 17, 19, 5.
-pub fn check_adjoint_trajectory(
-    n: usize,
-    row_ptr: &[usize],
-    col_idx: &[u32],
-    segments: usize,
-    breakpoints: &[f64],
-    starts: &[f64],
-    ends: &[f64],
-    laws: &[u8],
-) -> Result<(), Refusal>
-    ensures { result ≡ adjoint_trajectory_fault (trajectory n row_ptr.now col_idx.now segments
-        breakpoints.now starts.now ends.now laws.now) }
+pub fn check_adjoint_trajectory(trajectory: Trajectory<'_>) -> Result<(), Refusal>
+    ensures { result ≡ adjoint_trajectory_fault (trajectory_of trajectory.entry) }
 {
-    graph_checks::check_pattern(n, row_ptr, col_idx)?;
-    check_one_segment(segments)?;
+    graph_checks::check_pattern(trajectory.n, trajectory.row_ptr, trajectory.col_idx)?;
+    check_one_segment(trajectory.segments)?;
     check_counts(
-        segments,
-        col_idx.len(),
-        breakpoints.len(),
-        starts.len(),
-        ends.len(),
-        laws.len(),
+        trajectory.segments,
+        trajectory.col_idx.len(),
+        trajectory.breakpoints.len(),
+        trajectory.starts.len(),
+        trajectory.ends.len(),
+        trajectory.laws.len(),
     )?;
-    check_breakpoints(breakpoints)?;
-    check_first_breakpoint(breakpoints[0])?;
-    check_lists(laws, starts, ends)
+    check_breakpoints(trajectory.breakpoints)?;
+    check_first_breakpoint(trajectory.breakpoints[0])?;
+    check_lists(trajectory.laws, trajectory.starts, trajectory.ends)
 }

@@ -5,7 +5,7 @@ use mathlib.Core.Logic.{inl}
 use mathlib.Core.List.{List}
 use Prim.Native.Nat.{ℕ, ◌+◌, ◌-◌, ◌≤◌, ◌<◌}
 use native.Mathlib.Omega.{arith}
-use lib.ListN.{length, set, length-set}
+use lib.ListN.{length, set}
 use lib.Ieee.{Float}
 use Rattle.scratch.specs.Parts.{part, put, Apart}
 use Rattle.scratch.proofs.Parts.{part-of-put-apart}
@@ -20,16 +20,10 @@ module _ (n : ℕ) (starts cols : List ℕ) (vals1 vals2 : List Float) (source f
 
   -- after i turns the work slice is w
   pub record TwoProducts (i : ℕ) (w : List Float) : Type 0 where
-    pub turns : i ≤ n
-    pub length-kept : length w ≡ length w₀
     pub written : WrittenOver second (row vals2) n (Written first (row vals1) n w₀ i) i w
 
   pub products-none : TwoProducts 0 w₀
-  products-none = record {
-    turns = omega arith;
-    length-kept = refl;
-    written = over_none second (row vals2) n w₀ (written_none first (row vals1) n w₀);
-  }
+  products-none = record { written = over_none second (row vals2) n w₀ (written_none first (row vals1) n w₀) }
 
   pub products-next : {i : ℕ} {w : List Float} → TwoProducts i w
       → first + n ≤ second
@@ -46,11 +40,7 @@ module _ (n : ℕ) (starts cols : List ℕ) (vals1 vals2 : List Float) (source f
       lent-part source n w ∙ part-kept over.here source apart2 ∙ part-kept over.rest source apart1 in
       let one : WrittenOver second (row vals2) n (Written first (row vals1) n w₀ (i + 1)) i (set w (first + i) x) = over-outside over (first + i) x (inl (omega arith))
       (λ u told. written_next told left (first + i) x refl (e1 ∙ ap (λ (v : List Float). row_sum64 starts cols vals1 v i) kept)) in
-      record {
-        turns = omega arith;
-        length-kept = simp length-set so.length-kept;
-        written = over-next one left (second + i) y refl (e2 ∙ ap (λ (v : List Float). row_sum64 starts cols vals2 v i) kept);
-      }
+      record { written = over-next one left (second + i) y refl (e2 ∙ ap (λ (v : List Float). row_sum64 starts cols vals2 v i) kept) }
 
   pub products-all : {i : ℕ} {w : List Float} → TwoProducts i w
       → n ≤ i
@@ -63,12 +53,13 @@ module _ (n : ℕ) (starts cols : List ℕ) (vals1 vals2 : List Float) (source f
 -- ---- samples with patterns of their own
 
 -- the second sample's product, by the first one's pattern where that is its own
-pub by-its-own-pattern : (n second : ℕ) {starts1 cols1 starts2 cols2 : List ℕ} (vals2 v w₁ : List Float) {w : List Float}
+pub by-its-own-pattern : {n m : ℕ} (second : ℕ) {starts1 cols1 starts2 cols2 : List ℕ} (vals2 v w₁ : List Float) {w : List Float}
+    → n ≡ m
     → (starts1 ≡ starts2) × (cols1 ≡ cols2)
     → w ≡ put second (row_product64 n starts1 cols1 vals2 v) w₁
-    → w ≡ put second (row_product64 n starts2 cols2 vals2 v) w₁
-by-its-own-pattern n second vals2 v w₁ same e =
-    e ∙ (λ k. put second (row_product64 n (same.0 k) (same.1 k) vals2 v) w₁)
+    → w ≡ put second (row_product64 m starts2 cols2 vals2 v) w₁
+by-its-own-pattern second vals2 v w₁ nodes same e =
+    e ∙ (λ k. put second (row_product64 (nodes k) (same.0 k) (same.1 k) vals2 v) w₁)
 
 -- one product after the other: the first one is written apart from the source
 pub one-after-the-other : (n source first second : ℕ) (P2 : List Float → List Float) (x w : List Float) {w₁ w₂ : List Float}

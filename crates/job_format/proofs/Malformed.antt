@@ -1,5 +1,5 @@
 -- What the check of a job answers, from the tests that it makes. Assumes nothing.
-use mathlib.Core.Path.{◌≡◌, refl, sym, ap, ◌∙◌}
+use mathlib.Core.Path.{◌≡◌, refl, ap, ◌∙◌}
 use mathlib.Core.Bool.{Bool, true, false, not, ◌||◌, true≢false}
 use mathlib.Core.List.{List}
 use Prim.Native.Nat.{ℕ, ◌≤◌, ◌<◌, min}
@@ -12,30 +12,19 @@ use Rattle.error.specs.declared.Refusal.TheVariants.{Malformed}
 use Rattle.error.specs.Answer.{Accepted, Refused}
 use Rattle.error.proofs.Checks.{refuse_if-accepted, refuse_if-refused, refuses, accepts}
 use Rattle.error.proofs.Left.{answers}
-use Rattle.job_format.specs.JobFormat.{allowed, field_start, job_map, job_nodes, job_entries, job_field, malformed, malformed_fault}
+use Rattle.job_format.specs.JobFormat.{allowed, job_map, job_nodes, job_entries, job_field, malformed, malformed_fault}
 
--- the tests, with the numbers that the code read
-module _ (bytes : List ℕ) {map n m end : ℕ} {ok : Bool} (maps : map ≡ job_map bytes) (nodes : n ≡ job_nodes bytes)
-    (entries : m ≡ job_entries bytes) (ends : end ≡ field_start map n m 9) (allows : ok ≡ allowed map) where
-  abbrev tests : Bool
-  tests =
-      ltb (length bytes) 2
-      || (ltb 16384 (length bytes) || (not ok || (ltb 64 n || (ltb 512 m || not (eqb (length bytes) end)))))
+-- the check's answer, where the bytes are no job, and where they are one
+pub refuses-job : (bytes : List ℕ) {count : ℕ}
+    → malformed bytes ≡ true
+    → count ≡ min (length bytes) 16385
+    → Answers (Refused (Malformed count)) (malformed_fault bytes)
+unfolding malformed_fault
+refuses-job bytes t e = answers (ap (λ (k : ℕ). Refused (Malformed k)) e ∙ refuses _ _ t)
 
-  are-malformed : tests ≡ malformed bytes
-  unfolding malformed job_field
-  are-malformed = rw (allows, ends, maps, nodes, entries)
-
-  pub refuses-job : {count : ℕ}
-      → tests ≡ true
-      → count ≡ min (length bytes) 16385
-      → Answers (Refused (Malformed count)) (malformed_fault bytes)
-  unfolding malformed_fault
-  refuses-job t e = answers (ap (λ (k : ℕ). Refused (Malformed k)) e ∙ refuses _ _ (sym are-malformed ∙ t))
-
-  pub accepts-job : tests ≡ false → Answers Accepted (malformed_fault bytes)
-  unfolding malformed_fault
-  accepts-job t = answers (accepts _ _ (sym are-malformed ∙ t))
+pub accepts-job : (bytes : List ℕ) → malformed bytes ≡ false → Answers Accepted (malformed_fault bytes)
+unfolding malformed_fault
+accepts-job bytes t = answers (accepts _ _ t)
 
 -- of six tests none holds, so the fourth and the fifth do not
 fourth-and-fifth : (a b c d e f : Bool)

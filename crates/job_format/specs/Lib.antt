@@ -1,1 +1,2 @@
 pub mod JobFormat
+pub mod Head

@@ -1,66 +1,138 @@
-// What a job starts with, and where its fields start. Past the end of its bytes they read 0.
-ghost use Rattle.std.specs.Prelude.{◌≡◌, ◌^◌, ◌≤◌, ◌<◌, get_or};
-ghost use Rattle.job_format.specs.JobFormat.{field_sizes, field_start, job_map, job_nodes, job_entries};
+// A job, and what its bytes say. Past the end of its bytes they read 0.
+ghost use Rattle.std.specs.Prelude.{◌≡◌, ◌+◌, ◌*◌, ◌^◌, ◌≤◌, ◌<◌, length, get_or};
+ghost use Rattle.job_checks.specs.Bits.{bit_of};
+ghost use Rattle.job_format.specs.JobFormat.{field_sizes, real, job_map, job_nodes, job_entries, job_has, job_field};
 
-use job_checks::kernel::stands_in;
-use little_endian::kernel::word16;
+use float_bits::from_bits;
+use job_checks::{Field, Map};
+use little_endian::kernel::{word16, word64};
+use std::marker::Model;
 
-// With what a job starts: the map, n and m.
-#[derive(Clone, Copy)]
-pub struct Head {
-    pub map: u64,
-    pub nodes: usize,
-    pub entries: usize,
+mod lists;
+mod numbers;
+
+// The bytes of a job, and with what they start: the map, n and m. A contract sees it as the list of its bytes.
+#[derive(Drop)]
+pub struct Job<'a> {
+    bytes: &'a [u8],
+    map: Map,
+    nodes: usize,
+    entries: usize,
 }
 
-// The head of a job.
-pub fn head_of(job: &[u8]) -> Head
-    ensures map_value { (result.map ≡ job_map job.now) × (result.map < 65536) }
-    ensures nodes_value { (result.nodes ≡ job_nodes job.now) × (result.nodes < 65536) }
-    ensures entries_value { (result.entries ≡ job_entries job.now) × (result.entries < 65536) }
-{
-    let map = word16(job, 0);
-    let nodes = word16(job, 2) as usize;
-    let entries = word16(job, 4) as usize;
-    Head {
-        map,
-        nodes,
-        entries,
-    }
+impl<'a> Model for Job<'a> {
+    ghost use Rattle.std.specs.Prelude.{ℕ, List};
+    ghost use Rattle.job_format.specs.Head.{Head};
+
+    ghost Value = { List ℕ };
+
+    ghost view = { λ j. j.bytes.now };
+
+    ghost invariant = { λ j. Head j.bytes.now j.map.bits j.nodes j.entries };
 }
 
-// How many bytes the field of a bit has, for n nodes and m entries.
-fn field_size(n: usize, m: usize, bit: u64) -> usize
-    requires { (n < 65536) × (m < 65536) × (bit < 9) }
-    ensures { (result ≡ get_or (field_sizes n m) bit 0) × (result ≤ 1048576) }
-{
-    let sizes = [
-        4 + 2 * (n + 1) + 2 * m,
-        8 * m,
-        8 * m,
-        8 * m,
-        8,
-        8,
-        8 + 8 * n + 8 * n,
-        8 * n,
-        0,
-    ];
-    sizes[bit as usize]
-}
-
-// Where the field of a bit starts.
-pub fn field_start(head: Head, bit: u64) -> usize
-    requires { (head.nodes < 65536) × (head.entries < 65536) × (bit ≤ 9) }
-    ensures { (result ≡ field_start head.map head.nodes head.entries bit) × (result < 2 ^ 32) }
-{
-    let map = head.map;
-    let n = head.nodes;
-    let m = head.entries;
-    let mut at = 2;
-    for k in 0..bit {
-        if stands_in(map, k) {
-            at += field_size(n, m, k);
+impl<'a> Job<'a> {
+    // The job with these bytes.
+    #[tactic(auto, unfolding(crate::specs::JobFormat::job_map, crate::specs::JobFormat::job_nodes, crate::specs::JobFormat::job_entries, crate::specs::JobFormat::word16))]
+    pub fn new(bytes: &'a [u8]) -> Self
+        ensures { result ≡ bytes.now }
+    {
+        Job {
+            bytes,
+            map: Map {
+                bits: word16(bytes, 0),
+            },
+            nodes: word16(bytes, 2) as usize,
+            entries: word16(bytes, 4) as usize,
         }
     }
-    at
+
+    // How many bytes it has.
+    pub fn len(&self) -> usize
+        ensures { result ≡ length self.now }
+    {
+        self.bytes.len()
+    }
+
+    pub fn map(&self) -> Map
+        ensures { result.bits ≡ job_map self.now }
+    {
+        self.map
+    }
+
+    // Whether it has a field.
+    #[tactic(auto, unfolding(crate::specs::JobFormat::job_has))]
+    pub fn has(&self, field: Field) -> bool
+        ensures { result ≡ job_has self.now (bit_of field) }
+    {
+        self.map.has(field)
+    }
+
+    // n.
+    pub fn nodes(&self) -> usize
+        ensures { (result ≡ job_nodes self.now) × (result < 65536) }
+    {
+        self.nodes
+    }
+
+    // m.
+    pub fn entries(&self) -> usize
+        ensures { (result ≡ job_entries self.now) × (result < 65536) }
+    {
+        self.entries
+    }
+
+    // How many bytes a field has.
+    #[tactic(auto, unfolding(crate::specs::JobFormat::field_sizes))]
+    fn size(&self, field: Field) -> usize
+        ensures { (result ≡ get_or (field_sizes (job_nodes self.now) (job_entries self.now)) (bit_of field) 0) × (result ≤ 1048576) }
+    {
+        let n = self.nodes();
+        let m = self.entries();
+        match field {
+            Field::Pattern => 4 + 2 * (n + 1) + 2 * m,
+            Field::Values1 | Field::Values2 | Field::Values3 => 8 * m,
+            Field::Tau | Field::Bound => 8,
+            Field::Weights => 8 + 8 * n + 8 * n,
+            Field::Signal => 8 * n,
+            Field::Adjoint => 0,
+        }
+    }
+
+    // Where the field of a bit starts.
+    fn start_of_bit(&self, bit: usize) -> usize
+        requires { bit ≤ 9 }
+        ensures { (result ≡ job_field self.now bit) × (result < 2 ^ 32) }
+    {
+        let mut at = 2;
+        for field in &Field::ALL[..bit] {
+            if self.has(*field) {
+                at += self.size(*field);
+            }
+        }
+        at
+    }
+
+    // Where a field starts.
+    pub fn start(&self, field: Field) -> usize
+        ensures { (result ≡ job_field self.now (bit_of field)) × (result < 2 ^ 32) }
+    {
+        self.start_of_bit(field.bit() as usize)
+    }
+
+    // Where the job ends.
+    pub fn end(&self) -> usize
+        ensures { result ≡ job_field self.now 9 }
+    {
+        self.start_of_bit(9)
+    }
+}
+
+// The real at a place.
+#[tactic(auto, unfolding(crate::specs::JobFormat::real))]
+fn real_at(bytes: &[u8], at: usize) -> f64
+    requires { at + 8 < 2 ^ 64 }
+    ensures { result ≡ real bytes.now at }
+{
+    from_bits(word64(bytes, at))
 }

@@ -10,17 +10,6 @@ use Rattle.arithmetic.specs.Arithmetic.{ieee}
 use Rattle.arithmetic.proofs.Tabulate.{length-tabulate, get_d_tabulate}
 use Rattle.scratch.specs.Parts.{zeros}
 
--- the part is as long as it is meant to be; `front-exact` says it with the length known otherwise
-pub front_length : {A : Type 0} (room : List A) {size k : ℕ} → size ≡ length room → k ≤ size → k ≡ length (take k room)
-front_length room {k = k} e h = sym (length-take-le k room (rw (← e) h))
-
-pub front-exact : {A : Type 0} (room : List A) {size k n : ℕ}
-    → size ≡ length room
-    → k ≤ size
-    → k ≡ n
-    → length (take k room) ≡ n
-front-exact room e h p = sym (front_length room e h) ∙ p
-
 -- an array of zeros
 pub repeated-zeros : (n : ℕ) → replicate n (ieee binary64).zero ≡ zeros n
 repeated-zeros n =
@@ -37,8 +26,9 @@ front-zeros {room} {size} {k} e h =
     (λ i l. let below : i < k = rw (length-take-le k (zeros size) long) at l in
     get_or-take k (zeros size) i nan below ∙ get_d_tabulate _ size i nan (omega arith) ∙ sym (get_d_tabulate _ k i nan below)))
 
-pub zeros-front-length : (room : List Float) {size k : ℕ} → room ≡ zeros size → k ≤ size → k ≡ length (take k room)
-zeros-front-length room {size} {k} e h = sym (ap length (front-zeros e h) ∙ length-tabulate _ k)
+-- the output of a step: a place for each node
+pub output-zeros : (size : ℕ) {n nodes : ℕ} → n ≡ nodes → n ≤ size → take n (replicate size (ieee binary64).zero) ≡ zeros nodes
+output-zeros size p h = front-zeros (repeated-zeros size) h ∙ ap zeros p
 
 -- the work slice of a step: so many places for each node
 pub work-zeros : {room : List Float} {size : ℕ} (times : ℕ) {n nodes : ℕ}

@@ -1,51 +1,61 @@
 // A job, from its bytes to the text that is printed (01, "The job program").
 #![tactic(auto)]
 
-ghost use Rattle.std.specs.Prelude.{◌≡◌};
-ghost use Rattle.scratch.specs.Parts.{zeros};
-ghost use Rattle.error.specs.declared.Checked.TheVariants.{Accepted};
-ghost use Rattle.job_text_numbers.specs.Placed.{Begins};
-ghost use Rattle.job_format.specs.JobFormat.{job_of, malformed_fault};
+ghost use Rattle.job_format.specs.JobFormat.{job_of};
 ghost use Rattle.job_step.specs.JobOutcome.{job_step_answer, job_step_output};
+ghost use Rattle.job_step.specs.Stepped.{Small};
 ghost use Rattle.job_answer.specs.AnswerText.{AnswerText};
 ghost use Rattle.job_run.specs.JobText.{JobText};
 
-use error::Refusal;
-use job_answer::kernel::write_answer;
+use job_checks::Field;
 use job_format::check_job;
-use job_format::kernel::head_of;
-use job_text::{TEXT, write_refused};
-use steps::step;
+use job_format::kernel::Job;
+use job_text::refused_text;
+use job_text_numbers::kernel::Text;
+use steps::JobStep;
 
 mod steps;
 
-// Room for the output of every job.
-fn output_room() -> [f64; 64]
-    ensures { result ≡ zeros 64 }
+// The text of a job that is not malformed, and so has at most 64 nodes and 512 entries: its fields are read, and lent to its step.
+fn run_step(job: Job) -> Text
+    requires { Small job }
+    ensures { AnswerText (job_step_answer (job_of job.entry)) (job_step_output (job_of job.entry)) result }
 {
-    [0.0; 64]
+    let n = job.nodes();
+    let m = job.entries();
+    let mut starts = [0; 65];
+    let row_ptr = &mut starts[..n + 1];
+    job.read_row_starts(row_ptr);
+    let mut columns = [0; 512];
+    let col_idx = &mut columns[..m];
+    job.read_columns(col_idx);
+    let mut first = [0.0; 512];
+    let vals1 = &mut first[..m];
+    job.read_values(Field::Values1, vals1);
+    let mut second = [0.0; 512];
+    let vals2 = &mut second[..m];
+    job.read_values(Field::Values2, vals2);
+    let mut signal = [0.0; 64];
+    let src = &mut signal[..n];
+    job.read_signal(src);
+    let step = JobStep {
+        job,
+        row_ptr,
+        col_idx,
+        vals1,
+        vals2,
+        src,
+    };
+    step.text()
 }
 
-// The text of a job that is not malformed.
-fn run_step(job: &[u8], text: &mut [u8; TEXT]) -> usize
-    requires { malformed_fault job.now ≡ Accepted }
-    ensures { let asked = job_of job.now in
-        Begins (AnswerText (job_step_answer asked) (job_step_output asked)) text.old text.new result }
+// The text of a job.
+pub fn run_job(bytes: &[u8]) -> Text
+    ensures { JobText bytes.now result }
 {
-    let n = head_of(job).nodes;
-    let mut output = output_room();
-    let dst = &mut output[..n];
-    let answer = step(job, dst);
-    write_answer(answer, dst, text)
-}
-
-// The text of a job, and the count of its bytes.
-pub fn run_job(job: &[u8], text: &mut [u8; TEXT]) -> usize
-    ensures { Begins (JobText job.now) text.old text.new result }
-{
-    let checked = check_job(job);
-    match checked {
-        Ok(()) => run_step(job, text),
-        Err(refusal) => write_refused(refusal, text),
+    let job = Job::new(bytes);
+    match check_job(&job) {
+        Ok(()) => run_step(job),
+        Err(refusal) => refused_text(refusal),
     }
 }

@@ -1,6 +1,6 @@
 -- A call that is lent the fields of a job is the job's step. Assumes nothing.
-use mathlib.Core.Path.{◌≡◌, subst, subst⁻¹}
-use mathlib.Core.Bool.{Bool, true, false, cond}
+use mathlib.Core.Path.{◌≡◌, subst}
+use mathlib.Core.Bool.{Bool, true, false}
 use mathlib.Core.List.{List}
 use Prim.Native.Nat.{ℕ, ◌*◌}
 use lib.Ieee.{Float}
@@ -74,35 +74,22 @@ module _ (job : Job) {n : ℕ} {starts cols : List ℕ} {vals1 vals2 signal outp
       record { answers = t.answers; output-is = t.output-is }
 
 -- the map selects the step
-module _ (job : Job) (answer : Checked) (out : List Float) where
-  abbrev Select : Bool → Bool → Type 0
-  Select order6 weighted =
-      Taken answer
-      (cond order6 (step6_answer (job_step6 job))
-      (cond weighted (weighted_answer (job_sign job) (job_weighted_step job)) (step_answer (job_sign job) (job_step job))))
-      out
-      (cond order6 (step6_output (job_step6 job))
-      (cond weighted (weighted_output (job_sign job) (job_weighted_step job)) (step_output (job_sign job) (job_step job))))
-
-module _ (job : Job) {answer : Checked} {out : List Float} where
+module _ (job : Job) where
   pub order6-selected : job.order6 ≡ true
-      → Taken answer (step6_answer (job_step6 job)) out (step6_output (job_step6 job))
-      → Taken answer (job_step_answer job) out (job_step_output job)
+      → (job_step_answer job ≡ step6_answer (job_step6 job)) × (job_step_output job ≡ step6_output (job_step6 job))
   unfolding job_step_answer job_step_output
-  order6-selected p t = subst⁻¹ (λ (o : Bool). Select job answer out o job.weighted) p t
+  order6-selected p = (rw p, rw p)
 
   pub weighted-selected : job.order6 ≡ false
       → job.weighted ≡ true
-      → Taken answer (weighted_answer (job_sign job) (job_weighted_step job)) out (weighted_output (job_sign job) (job_weighted_step job))
-      → Taken answer (job_step_answer job) out (job_step_output job)
+      → (job_step_answer job ≡ weighted_answer (job_sign job) (job_weighted_step job))
+      × (job_step_output job ≡ weighted_output (job_sign job) (job_weighted_step job))
   unfolding job_step_answer job_step_output
-  weighted-selected p q t =
-      subst⁻¹ (λ (o : Bool). Select job answer out o job.weighted) p (subst⁻¹ (λ (w : Bool). Select job answer out false w) q t)
+  weighted-selected p q = (rw (p, q), rw (p, q))
 
   pub unweighted-selected : job.order6 ≡ false
       → job.weighted ≡ false
-      → Taken answer (step_answer (job_sign job) (job_step job)) out (step_output (job_sign job) (job_step job))
-      → Taken answer (job_step_answer job) out (job_step_output job)
+      → (job_step_answer job ≡ step_answer (job_sign job) (job_step job))
+      × (job_step_output job ≡ step_output (job_sign job) (job_step job))
   unfolding job_step_answer job_step_output
-  unweighted-selected p q t =
-      subst⁻¹ (λ (o : Bool). Select job answer out o job.weighted) p (subst⁻¹ (λ (w : Bool). Select job answer out false w) q t)
+  unweighted-selected p q = (rw (p, q), rw (p, q))

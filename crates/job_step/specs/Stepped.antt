@@ -1,4 +1,4 @@
--- What the contracts of the job's steps cite. Assumes nothing.
+-- What the contracts of the job's steps cite, and their proofs. Assumes nothing.
 use Rattle.std.specs.Prelude.{◌≡◌, Bool, List, ℕ, ◌≤◌, Float}
 use Rattle.error.specs.Refusals.{Answers}
 use Rattle.error.specs.Answer.{Checked}

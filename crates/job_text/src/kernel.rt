@@ -1,35 +1,32 @@
-// The lines of an accepted job, for callers that keep them within the bytes that they lend. Each answers the index behind
-// what it wrote.
+// The text of an accepted job, for callers that keep to the values of a job.
 ghost use Rattle.std.specs.Prelude.{◌≡◌, ◌+◌, ◌*◌, ◌≤◌, length};
-ghost use Rattle.job_text_numbers.specs.Placed.{PlacedSome, Begins};
+ghost use Rattle.job_text_numbers.specs.Added.{Added};
 ghost use Rattle.job_text.specs.Text.{Lines, DoneText};
 
-use crate::TEXT;
-use job_text_numbers::kernel::{put_byte, put_bytes, put_decimal, put_real};
+use job_text_numbers::kernel::{TEXT, Text};
 
-pub const NEWLINE: u8 = 10;
+pub const NEWLINE: u8 = b'\n';
 
-// The text of an accepted job, and the count of its bytes. A job has at most 64 values.
-pub fn write_done(values: &[f64], text: &mut [u8; TEXT]) -> usize
+// The text of an accepted job. A job has at most 64 values.
+pub fn done_text(values: &[f64]) -> Text
     requires { length values.now ≤ 64 }
-    ensures { Begins (DoneText values.now) text.old text.new result }
+    ensures { DoneText values.now result }
 {
-    let word = put_bytes(text, 0, b"done ");
-    let count = put_decimal(text, word, values.len());
-    let first = put_byte(text, count, NEWLINE);
-    put_lines(text, first, values)
+    let mut text = Text::new();
+    text.put_bytes(b"done ");
+    text.put_decimal(values.len());
+    text.put_byte(NEWLINE);
+    put_lines(&mut text, values);
+    text
 }
 
 // A line for each value.
-fn put_lines(text: &mut [u8], at: usize, values: &[f64]) -> usize
-    requires { at + 17 * length values.now ≤ length text.old }
-    ensures placed_some { PlacedSome at (Lines values.now) text.old text.new result }
-    ensures value { result ≡ at + 17 * length values.now }
+fn put_lines(text: &mut Text, values: &[f64])
+    requires { length text.old + 17 * length values.now ≤ TEXT }
+    ensures { Added (Lines values.now) text.old text.new }
 {
-    let mut next = at;
-    for i in 0..values.len() {
-        let end = put_real(text, next, values[i]);
-        next = put_byte(text, end, NEWLINE);
+    for value in values {
+        text.put_real(*value);
+        text.put_byte(NEWLINE);
     }
-    next
 }

@@ -1,1 +1,1 @@
-pub mod Placed
+pub mod Added

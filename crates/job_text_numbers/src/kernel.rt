@@ -1,57 +1,93 @@
-// Numbers and bytes, written from an index on, for callers that keep them within the bytes that they lend. Each answers the
-// index behind what it wrote.
-ghost use Rattle.std.specs.Prelude.{◌≡◌, ◌∷◌, [], ◌+◌, ◌≤◌, ◌<◌, length};
-ghost use Rattle.job_text_numbers.specs.Placed.{Placed, PlacedSome};
+// A text with room for that of every job, and what is written behind it, for callers that keep within the room.
+ghost use Rattle.std.specs.Prelude.{◌≡◌, ◌∷◌, [], ◌++◌, ◌+◌, ◌≤◌, ◌<◌, length};
 ghost use Rattle.job_text_digits.specs.Numbers.{digits, decimal, RealText};
+ghost use Rattle.job_text_numbers.specs.Added.{Added};
 
+use arrayvec::ArrayVec;
 use job_text_digits::kernel::{digit, pattern, places};
+use std::marker::Model;
 
-// A real, as a bit pattern of it in hexadecimal.
-pub fn put_real(text: &mut [u8], at: usize, x: f64) -> usize
-    requires { at + 16 ≤ length text.old }
-    ensures placed_some { PlacedSome at (RealText x) text.old text.new result }
-    ensures value { result ≡ at + 16 }
-{
-    put_digits(text, at, 16, 16, pattern(x))
+// What the longest text needs: `done 64` and its newline, and 64 lines of 16 digits and a newline.
+pub const TEXT: usize = 1096;
+
+// The bytes that are written so far. A contract sees it as the list of them.
+// It is no `fmt::Write`: `write!` may answer an `Err`, of which std's contract says nothing, and a job's text cannot fail.
+#[derive(Drop)]
+pub struct Text {
+    bytes: ArrayVec<u8, TEXT>,
 }
 
-// A count in decimal.
-pub fn put_decimal(text: &mut [u8], at: usize, n: usize) -> usize
-    requires { at + 20 ≤ length text.old }
-    ensures placed { Placed at (decimal n) text.old text.new result }
-    ensures upper_bound { result ≤ at + 20 }
-{
-    put_digits(text, at, 10, places(n), n as u64)
+impl Model for Text {
+    ghost use Rattle.std.specs.Prelude.{ℕ, List};
+
+    ghost Value = { List ℕ };
+
+    ghost view = { λ t. t.bytes.items };
 }
 
-// The last k digits of n in a base, the most significant first.
-fn put_digits(text: &mut [u8], at: usize, base: u64, k: usize, n: u64) -> usize
-    requires { (0 < base) × (base ≤ 16) × (at + k ≤ length text.old) }
-    ensures { Placed at (digits base k n) text.old text.new result }
-{
-    if k == 0 {
-        return at;
+impl Text {
+    // No bytes.
+    pub fn new() -> Self
+        ensures { result ≡ [] }
+    {
+        Text {
+            bytes: ArrayVec::new(),
+        }
     }
-    let last = put_digits(text, at, base, k - 1, n / base);
-    put_byte(text, last, digit(n % base))
-}
 
-// Bytes, as they are.
-pub fn put_bytes(text: &mut [u8], at: usize, bytes: &[u8]) -> usize
-    requires { at + length bytes.now ≤ length text.old }
-    ensures { Placed at bytes.now text.old text.new result }
-{
-    for j in 0..bytes.len() {
-        text[at + j] = bytes[j];
+    // The bytes.
+    pub fn as_bytes(&self) -> &[u8]
+        ensures { result.now ≡ self.now }
+    {
+        self.bytes.as_slice()
     }
-    at + bytes.len()
-}
 
-// One byte.
-pub fn put_byte(text: &mut [u8], at: usize, byte: u8) -> usize
-    requires { at < length text.old }
-    ensures { Placed at (byte ∷ []) text.old text.new result }
-{
-    text[at] = byte;
-    at + 1
+    // One byte.
+    pub fn put_byte(&mut self, byte: u8)
+        requires { length self.old < TEXT }
+        ensures { self.new ≡ self.old ++ byte ∷ [] }
+    {
+        self.bytes.push(byte);
+    }
+
+    // Bytes, as they are.
+    pub fn put_bytes(&mut self, bytes: &[u8])
+        requires { length self.old + length bytes.now ≤ TEXT }
+        ensures { self.new ≡ self.old ++ bytes.now }
+    {
+        for byte in bytes {
+            self.bytes.push(*byte);
+        }
+    }
+
+    // The last k digits of n in a base, the most significant first.
+    fn put_digits(&mut self, base: u64, k: usize, n: u64)
+        requires base_value { (0 < base) × (base ≤ 16) }
+        requires room { length self.old + k ≤ TEXT }
+        ensures { self.new ≡ self.old ++ digits base k n }
+    {
+        if k == 0 {
+            return;
+        }
+        self.put_digits(base, k - 1, n / base);
+        self.put_byte(digit(n % base));
+    }
+
+    // A count in decimal.
+    pub fn put_decimal(&mut self, n: usize)
+        requires { length self.old + 20 ≤ TEXT }
+        ensures added { self.new ≡ self.old ++ decimal n }
+        ensures upper_bound { length self.new ≤ length self.old + 20 }
+    {
+        self.put_digits(10, places(n), n as u64);
+    }
+
+    // A real, as a bit pattern of it in hexadecimal.
+    pub fn put_real(&mut self, x: f64)
+        requires { length self.old + 16 ≤ TEXT }
+        ensures added { Added (RealText x) self.old self.new }
+        ensures length_value { length self.new ≡ length self.old + 16 }
+    {
+        self.put_digits(16, 16, pattern(x));
+    }
 }

@@ -1,4 +1,4 @@
-// Numbers as the job program prints them (01, "The job program"), and bytes, written to an array that the caller lends.
+// The text that the job program prints (01, "The job program"), as it is written: bytes and numbers, one behind the other.
 #![tactic(auto)]
 
 pub mod kernel;

@@ -1,5 +1,5 @@
 -- A number of bytes from two parts of them. Assumes nothing.
-use mathlib.Core.Path.{◌≡◌, refl, ap, ap₂, ◌∙◌}
+use mathlib.Core.Path.{◌≡◌}
 use mathlib.Core.List.{List}
 use Prim.Native.Nat.{ℕ, zero, suc, ◌+◌, ◌*◌, ◌^◌}
 use native.Mathlib.Nat.{add-zero, add-suc, add_assoc, mul-add, mul_assoc, mul-zero}

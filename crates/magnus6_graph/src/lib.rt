@@ -2,10 +2,12 @@
 // columns and values.
 #![tactic(auto)]
 
-ghost use Rattle.magnus_graph_faults.specs.StepChecks.{sample};
+ghost use Rattle.magnus_graph_faults.specs.StepChecks.{sample_of};
 ghost use Rattle.magnus6_graph_outcome.specs.StepOutcome.{step6_input, Stepped6};
 
 use error::Refusal;
+use graph_checks::CsrParts;
+use magnus_graph_checks::binary64_values;
 use magnus6_graph_checks::check_step6;
 use magnus6_graph_helpers::kernel::step6;
 
@@ -13,18 +15,9 @@ use magnus6_graph_helpers::kernel::step6;
 // n, the third n, src, dst and work, whose need is 22n; a refusal leaves every slice as it was. Accepted, the first 22n elements of work
 // become +0.
 pub fn apply_exp_omega6_kernel(
-    n1: usize,
-    row_ptr1: &[usize],
-    col_idx1: &[u32],
-    vals1: &[f64],
-    n2: usize,
-    row_ptr2: &[usize],
-    col_idx2: &[u32],
-    vals2: &[f64],
-    n3: usize,
-    row_ptr3: &[usize],
-    col_idx3: &[u32],
-    vals3: &[f64],
+    first: CsrParts<'_>,
+    second: CsrParts<'_>,
+    third: CsrParts<'_>,
     tau: f64,
     rho_bar_max: f64,
     convergence_radius_check: bool,
@@ -33,25 +26,16 @@ pub fn apply_exp_omega6_kernel(
     work: &mut [f64],
 ) -> Result<(), Refusal>
     ensures { Stepped6 (step6_input
-        (sample n1 row_ptr1.now col_idx1.now vals1.now)
-        (sample n2 row_ptr2.now col_idx2.now vals2.now)
-        (sample n3 row_ptr3.now col_idx3.now vals3.now)
+        (sample_of first.entry)
+        (sample_of second.entry)
+        (sample_of third.entry)
         tau rho_bar_max convergence_radius_check src.now dst.old work.old)
         result dst.new work.new }
 {
     let checked = check_step6(
-        n1,
-        row_ptr1,
-        col_idx1,
-        vals1,
-        n2,
-        row_ptr2,
-        col_idx2,
-        vals2,
-        n3,
-        row_ptr3,
-        col_idx3,
-        vals3,
+        first,
+        second,
+        third,
         tau,
         rho_bar_max,
         convergence_radius_check,
@@ -62,9 +46,23 @@ pub fn apply_exp_omega6_kernel(
     let Ok(()) = checked else {
         return checked;
     };
+    binary64_values(first.vals);
+    binary64_values(second.vals);
+    binary64_values(third.vals);
     step6(
-        row_ptr1, col_idx1, vals1, row_ptr2, col_idx2, vals2, row_ptr3, col_idx3, vals3, tau, src,
-        dst, work,
+        first.row_ptr,
+        first.col_idx,
+        first.vals,
+        second.row_ptr,
+        second.col_idx,
+        second.vals,
+        third.row_ptr,
+        third.col_idx,
+        third.vals,
+        tau,
+        src,
+        dst,
+        work,
     );
     Ok(())
 }

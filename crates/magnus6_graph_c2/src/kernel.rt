@@ -1,12 +1,10 @@
-// C2 of order 6 at a vector (01, part 9; `apply_omega6` of the Rust), for callers that have checked their arguments. Where a vector
-// lies, and what `shared` says, src/kernel.rt of the crate magnus6_graph_parts tells.
+// C2 of order 6 at a vector (01, part 9; `apply_omega6` of the Rust), for callers whose checks have accepted the samples. Where a vector
+// lies, src/kernel.rt of the crate magnus6_graph_parts tells.
 ghost use Rattle.std.specs.Prelude.{◌+◌, ◌*◌, ◌≤◌, length};
 ghost use Rattle.std.specs.Float.{binary64};
 ghost use Rattle.arithmetic.specs.Arithmetic.{ieee};
 ghost use Rattle.scratch.specs.Parts.{part};
-ghost use Rattle.graph_checks.specs.Pattern.{ValuedPattern};
-ghost use Rattle.graph_rows.specs.RowProduct.{row_product64};
-ghost use Rattle.graph_two_products.specs.SharedPattern.{SharedPattern};
+ghost use Rattle.graph_rows.specs.Product.{product_of};
 ghost use Rattle.magnus.specs.Omega6.{constants6};
 ghost use Rattle.magnus6_graph_parts.specs.Omega6Parts.{C2Formed};
 
@@ -14,57 +12,32 @@ use graph_scratch::kernel::product_in;
 use graph_two_products::kernel::two_products_in;
 use magnus6_graph_c1::kernel::form_c1;
 use magnus6_graph_c2_sums::kernel::{c2_sum, w_sum};
+use magnus6_graph_parts::kernel::Samples6;
 
 // B1 x, B2 x, B3 x and C1 x, and C2 x.
-pub fn form_c2(
-    row_ptr1: &[usize],
-    col_idx1: &[u32],
-    vals1: &[f64],
-    row_ptr2: &[usize],
-    col_idx2: &[u32],
-    vals2: &[f64],
-    row_ptr3: &[usize],
-    col_idx3: &[u32],
-    vals3: &[f64],
-    shared: bool,
-    tau: f64,
-    work: &mut [f64],
-    n: usize,
-    x: usize,
-)
-    requires valued_pattern { ValuedPattern n row_ptr1.now col_idx1.now vals1.now }
-    requires valued_pattern_2 { ValuedPattern n row_ptr2.now col_idx2.now vals2.now }
-    requires valued_pattern_3 { ValuedPattern n row_ptr3.now col_idx3.now vals3.now
-        × SharedPattern shared row_ptr1.now col_idx1.now row_ptr3.now col_idx3.now }
-    requires n_in_bounds { (22 * n ≤ length work.old) × (x + n ≤ 6 * n) }
+pub fn form_c2(samples: &Samples6<'_>, work: &mut [f64], x: usize)
+    requires room { 22 * samples.now.first.pattern.n ≤ length work.old }
+    requires x_in_bounds { x + samples.now.first.pattern.n ≤ 6 * samples.now.first.pattern.n }
     ensures { let w = work.old in
-        let L1 = row_product64 n row_ptr1.now col_idx1.now vals1.now in
-        let L2 = row_product64 n row_ptr2.now col_idx2.now vals2.now in
-        let L3 = row_product64 n row_ptr3.now col_idx3.now vals3.now in
-        C2Formed (ieee binary64) n constants6 tau L1 L2 L3 (part x n w) w work.new }
+        let s = samples.now in
+        let n = s.first.pattern.n in
+        C2Formed (ieee binary64) n constants6 s.tau (product_of s.first) (product_of s.second) (product_of s.third) (part x n w) w work.new }
 {
-    form_c1(
-        row_ptr1, col_idx1, vals1, row_ptr2, col_idx2, vals2, row_ptr3, col_idx3, vals3, shared,
-        tau, work, n, x,
-    );
+    let n = samples.first.pattern.n;
+    form_c1(samples, work, x);
     w_sum(work, n);
     // L2 W x, L2 y, L2 B2 y, L1 L2 y, L3 L2 y
-    product_in(row_ptr2, col_idx2, vals2, work, n, 14 * n, 15 * n);
-    product_in(row_ptr2, col_idx2, vals2, work, n, 9 * n, 16 * n);
-    product_in(row_ptr2, col_idx2, vals2, work, n, 12 * n, 17 * n);
+    product_in(samples.second, work, 14 * n, 15 * n);
+    product_in(samples.second, work, 9 * n, 16 * n);
+    product_in(samples.second, work, 12 * n, 17 * n);
     two_products_in(
-        row_ptr1,
-        col_idx1,
-        vals1,
-        row_ptr3,
-        col_idx3,
-        vals3,
-        shared,
+        samples.first,
+        samples.third,
+        samples.shared,
         work,
-        n,
         16 * n,
         18 * n,
         19 * n,
     );
-    c2_sum(work, n, tau);
+    c2_sum(work, n, samples.tau);
 }

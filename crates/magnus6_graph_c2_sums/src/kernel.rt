@@ -7,7 +7,7 @@ ghost use Rattle.scratch.specs.Parts.{part, put};
 ghost use Rattle.magnus.specs.Omega6.{constants6};
 ghost use Rattle.magnus6_graph_parts.specs.Omega6Parts.{twice_first_plus, c2_sum};
 
-use magnus6_graph_parts::kernel::{SQRT15_OVER_3, TEN_OVER_3};
+use magnus6_graph_parts::kernel::{SQRT15_OVER_3, TEN_OVER_3, second_difference};
 
 // A constant of magnus6_graph.rs; its value is that of constants6 in the crate magnus.
 const ONE_OVER_60: f64 = 1.0 / 60.0;
@@ -46,8 +46,12 @@ pub fn c2_sum(work: &mut [f64], n: usize, tau: f64)
     let two_b3_scale = (tau + tau) * TEN_OVER_3;
     let b2_b1_scale = tau * SQRT15_OVER_3 * -tau;
     for i in 0..n {
-        let two_b3_y = two_b3_scale
-            * (-work[l3_y + i] + work[l2_y + i] + work[l2_y + i] - work[l1_y + i]);
+        let two_b3_y = second_difference(
+            two_b3_scale,
+            work[l1_y + i],
+            work[l2_y + i],
+            work[l3_y + i],
+        );
         let c1_y = -tau * work[l2_b2_y + i] - b2_b1_scale * (work[l1_l2_y + i] - work[l3_l2_y + i]);
         work[target + i] = -ONE_OVER_60 * (-tau * work[l2_w + i] - (two_b3_y + c1_y));
     }

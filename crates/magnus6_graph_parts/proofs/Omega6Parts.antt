@@ -23,6 +23,12 @@ use Rattle.magnus6_graph_parts.specs.Omega6Parts.{BFormed, C1Formed, C2Formed, L
 use Rattle.magnus6_graph_parts.proofs.Omega6Walks.{length-second-difference, length-twice-first-plus, length-c2-sum}
 
 module _ {K : Type 0} (n : ℕ) where
+  -- the products with the samples have n places
+  pub record Sizes (P1 P2 P3 : List K → List K) : Type 0 where
+    pub first : (x : List K) → length (P1 x) ≡ n
+    pub second : (x : List K) → length (P2 x) ≡ n
+    pub third : (x : List K) → length (P3 x) ≡ n
+
   -- ---- what the writes leave
 
   pub kept-all : (from : ℕ) (w : List K) → Kept n from w w
@@ -52,8 +58,7 @@ module _ {K : Type 0} (n : ℕ) where
   room-kept kept room = rw kept.length-kept room
 
 module _ {K : Type 0} (A : Arithmetic K) (n : ℕ) (k : Constants6 K) (τ : K) (P1 P2 P3 : Operator A n)
-    (size1 : (x : List K) → length (P1 x) ≡ n) (size2 : (x : List K) → length (P2 x) ≡ n)
-    (size3 : (x : List K) → length (P3 x) ≡ n) where
+    (sizes : Sizes n P1 P2 P3) where
   open A use {◌*◌, -◌}
   open k use {sqrt15_over3, ten_over3, one_over12, one_over240, minus_twenty}
 
@@ -75,9 +80,9 @@ module _ {K : Type 0} (A : Arithmetic K) (n : ℕ) (k : Constants6 K) (τ : K) (
   unfolding b1 b2
   b-formed x w w₁ w₂ w₃ w₄ w₅ room within e₁ e₂ e₃ e₄ e₅ =
       let v = part x n w in
-      let s₀ = wrote n (6 *ℕ n) (P1 v) w (put (6 *ℕ n) (P1 v) w) (size1 _) (omega arith) refl in
-      let s₁ = wrote n (8 *ℕ n) _ (put (6 *ℕ n) (P1 v) w) w₁ (size3 _) (omega arith) e₁ in
-      let s₂ = wrote n (7 *ℕ n) _ w₁ w₂ (size2 _) (omega arith) e₂ in
+      let s₀ = wrote n (6 *ℕ n) (P1 v) w (put (6 *ℕ n) (P1 v) w) (sizes.first _) (omega arith) refl in
+      let s₁ = wrote n (8 *ℕ n) _ (put (6 *ℕ n) (P1 v) w) w₁ (sizes.third _) (omega arith) e₁ in
+      let s₂ = wrote n (7 *ℕ n) _ w₁ w₂ (sizes.second _) (omega arith) e₂ in
       let s₃ = wrote n (9 *ℕ n) _ w₂ w₃ (length-tabulate _ n) (omega arith) e₃ in
       let s₄ = wrote n (10 *ℕ n) _ w₃ w₄ (length-tabulate _ n) (omega arith) e₄ in
       let s₅ = wrote n (11 *ℕ n) _ w₄ w₅ (length-second-difference A n _ _ _ _) (omega arith) e₅ in
@@ -118,9 +123,9 @@ module _ {K : Type 0} (A : Arithmetic K) (n : ℕ) (k : Constants6 K) (τ : K) (
   c1-formed v w {w₁} w₂ w₄ w₅ w₆ room b e₂ e₄ e₅ e₆ =
       let room₁ = room-kept n b.kept room in
       let w₃ = put (7 *ℕ n) (P1 (part (9 *ℕ n) n w₂)) w₂ in
-      let s₂ = wrote n (6 *ℕ n) _ w₁ w₂ (size2 _) (omega arith) e₂ in
-      let s₃ = wrote n (7 *ℕ n) (P1 (part (9 *ℕ n) n w₂)) w₂ w₃ (size1 _) (omega arith) refl in
-      let s₄ = wrote n (8 *ℕ n) _ w₃ w₄ (size3 _) (omega arith) e₄ in
+      let s₂ = wrote n (6 *ℕ n) _ w₁ w₂ (sizes.second _) (omega arith) e₂ in
+      let s₃ = wrote n (7 *ℕ n) (P1 (part (9 *ℕ n) n w₂)) w₂ w₃ (sizes.first _) (omega arith) refl in
+      let s₄ = wrote n (8 *ℕ n) _ w₃ w₄ (sizes.third _) (omega arith) e₄ in
       let s₅ = wrote n (12 *ℕ n) _ w₄ w₅ (length-tabulate _ n) (omega arith) e₅ in
       let s₆ = wrote n (13 *ℕ n) _ w₅ w₆ (length-tabulate _ n) (omega arith) e₆ in
       let held : (a : ℕ) → 9 *ℕ n ≤ a → a +ℕ n ≤ 12 *ℕ n → part a n w₆ ≡ part a n w₁ = λ a h l.
@@ -164,11 +169,11 @@ module _ {K : Type 0} (A : Arithmetic K) (n : ℕ) (k : Constants6 K) (τ : K) (
       let room₁ = room-kept n c.kept room in
       let w₆ = put (18 *ℕ n) (P1 (part (16 *ℕ n) n w₅)) w₅ in
       let s₂ = wrote n (14 *ℕ n) _ w₁ w₂ (length-twice-first-plus A n _ _) (omega arith) e₂ in
-      let s₃ = wrote n (15 *ℕ n) _ w₂ w₃ (size2 _) (omega arith) e₃ in
-      let s₄ = wrote n (16 *ℕ n) _ w₃ w₄ (size2 _) (omega arith) e₄ in
-      let s₅ = wrote n (17 *ℕ n) _ w₄ w₅ (size2 _) (omega arith) e₅ in
-      let s₆ = wrote n (18 *ℕ n) (P1 (part (16 *ℕ n) n w₅)) w₅ w₆ (size1 _) (omega arith) refl in
-      let s₇ = wrote n (19 *ℕ n) _ w₆ w₇ (size3 _) (omega arith) e₇ in
+      let s₃ = wrote n (15 *ℕ n) _ w₂ w₃ (sizes.second _) (omega arith) e₃ in
+      let s₄ = wrote n (16 *ℕ n) _ w₃ w₄ (sizes.second _) (omega arith) e₄ in
+      let s₅ = wrote n (17 *ℕ n) _ w₄ w₅ (sizes.second _) (omega arith) e₅ in
+      let s₆ = wrote n (18 *ℕ n) (P1 (part (16 *ℕ n) n w₅)) w₅ w₆ (sizes.first _) (omega arith) refl in
+      let s₇ = wrote n (19 *ℕ n) _ w₆ w₇ (sizes.third _) (omega arith) e₇ in
       let s₈ = wrote n (20 *ℕ n) _ w₇ w₈ (length-c2-sum A n k τ _ _ _ _ _ _ _) (omega arith) e₈ in
       -- the vectors before 14n are those of C1x
       let k₂ = kept-write n (kept-all n (14 *ℕ n) w₁) s₂ (omega arith) (omega arith) in

@@ -9,7 +9,7 @@ use Rattle.arithmetic.specs.Arithmetic.{Arithmetic, at}
 use Rattle.arithmetic.proofs.Tabulate.{length-tabulate, tabulate-same}
 use Rattle.arithmetic.proofs.Product.{at-tabulate}
 use Rattle.magnus.specs.Omega6.{Constants6}
-use Rattle.magnus6_graph_parts.specs.Omega6Parts.{scaled_second_difference, twice_first_plus, c2_sum}
+use Rattle.magnus6_graph_parts.specs.Omega6Parts.{second_difference_of, scaled_second_difference, twice_first_plus, c2_sum}
 
 module _ {K : Type 0} (A : Arithmetic K) where
   open A use {◌+◌, ◌-◌, ◌*◌, -◌}
@@ -18,11 +18,8 @@ module _ {K : Type 0} (A : Arithmetic K) where
   infixl 70 ◌*◌
   infix 80 -◌
   -- each sum of numbers, at place i of its vectors, and the walk over the places that writes it
-  abbrev pub second_difference_of : K → K → K → K → K
-  second_difference_of s a1 a2 a3 = s * (- a3 + a2 + a2 - a1)
-
   abbrev pub second_difference_at : K → List K → List K → List K → ℕ → K
-  second_difference_at s a1 a2 a3 i = second_difference_of s (at A a1 i) (at A a2 i) (at A a3 i)
+  second_difference_at s a1 a2 a3 i = second_difference_of A s (at A a1 i) (at A a2 i) (at A a3 i)
 
   pub second-difference-walk : (n : ℕ) (s : K) (a1 a2 a3 : List K)
       → tabulate (second_difference_at s a1 a2 a3) n ≡ scaled_second_difference A n s a1 a2 a3
@@ -46,7 +43,7 @@ module _ {K : Type 0} (A : Arithmetic K) where
     abbrev pub c2_of : K → K → K → K → K → K → K → K
     c2_of p2w p1y p2y p3y p2b2y p1p2y p3p2y =
         (- one_over60) * ((- τ) * p2w
-        - (second_difference_of ((τ + τ) * ten_over3) p1y p2y p3y
+        - (second_difference_of A ((τ + τ) * ten_over3) p1y p2y p3y
         + ((- τ) * p2b2y - (τ * sqrt15_over3 * - τ) * (p1p2y - p3p2y))))
 
     abbrev pub c2_sum_at : List K → List K → List K → List K → List K → List K → List K → ℕ → K

@@ -17,6 +17,16 @@ module _ {K : Type 0} (n : ℕ) where
     pub length-kept : length w' ≡ length w
     pub rest : (j : ℕ) → 22 *ℕ n ≤ j → drop j w' ≡ drop j w
 
+module _ {K : Type 0} (A : Arithmetic K) where
+  open A use {◌+◌, ◌-◌, ◌*◌, -◌}
+
+  infixl 60 ◌+◌ ◌-◌
+  infixl 70 ◌*◌
+  infix 80 -◌
+  -- A3 - 2 A2 + A1 at a place, from a1, a2 and a3 there; s times that
+  abbrev pub second_difference_of : K → K → K → K → K
+  second_difference_of s a1 a2 a3 = s * (- a3 + a2 + a2 - a1)
+
 module _ {K : Type 0} (A : Arithmetic K) (n : ℕ) where
   open vectors A n use {◌+◌ as ◌⊕◌, ◌-◌ as ◌⊖◌, -◌ as ⊖◌}
 

@@ -1,4 +1,4 @@
-// B1, B2 and B3 of order 6 at a vector (01, part 9; `apply_omega6` of the Rust), for callers that have checked their arguments. L1,
+// B1, B2 and B3 of order 6 at a vector (01, part 9; `apply_omega6` of the Rust), for callers whose checks have accepted the samples. L1,
 // L2 and L3 are the products with the three samples. B1, B2, B3, C1, C2 and W = 2 B3 + C1 are the operators of the formula in
 // the crate magnus (specs/Omega6.antt), and y is B1 x. The vectors of n places that a step of order 6 forms lie one after the other in
 // the work slice:
@@ -24,19 +24,18 @@
 //   19n   L3 L2 y
 //   20n   C2 x
 //   21n   (B2 + C2) l
-// No vector is read after another has taken its place. `shared` says that the first and the third sample have one pattern: one walk over it then
-// forms both of their products with a vector.
+// No vector is read after another has taken its place.
 ghost use Rattle.std.specs.Prelude.{◌≡◌, ◌+◌, ◌*◌, ◌≤◌, length};
 ghost use Rattle.std.specs.Float.{binary64};
 ghost use Rattle.std.specs.Float.Ieee.{mul};
 ghost use Rattle.arithmetic.specs.Arithmetic.{ieee};
 ghost use Rattle.scratch.specs.Parts.{part, put};
-ghost use Rattle.graph_checks.specs.Pattern.{ValuedPattern};
-ghost use Rattle.graph_rows.specs.RowProduct.{row_product64};
+ghost use Rattle.graph_rows.specs.Product.{product_of};
 ghost use Rattle.graph_two_products.specs.SharedPattern.{SharedPattern};
 ghost use Rattle.magnus.specs.Omega6.{constants6};
-ghost use Rattle.magnus6_graph_parts.specs.Omega6Parts.{scaled_second_difference, BFormed};
+ghost use Rattle.magnus6_graph_parts.specs.Omega6Parts.{second_difference_of, scaled_second_difference, BFormed};
 
+use graph_rows::kernel::Sample;
 use graph_scratch::kernel::product_in;
 use graph_two_products::kernel::two_products_in;
 use scratch_multiples::kernel::{scale_within, scaled_difference};
@@ -45,6 +44,28 @@ use scratch_multiples::kernel::{scale_within, scaled_difference};
 pub const SQRT15_OVER_3: f64 = 1.290_994_448_735_805_6;
 
 pub const TEN_OVER_3: f64 = 10.0 / 3.0;
+
+// The three samples of a step of order 6, which have the same number of nodes, and the step's length τ. `shared` says that the first and the third
+// sample have one pattern: one walk over it then forms both of their products with a vector.
+#[derive(Clone, Copy)]
+pub struct Samples6<'a> {
+    pub first: Sample<'a>,
+    pub second: Sample<'a>,
+    pub third: Sample<'a>,
+    pub shared: bool,
+    pub tau: f64,
+    pub ghost second_nodes: { second.pattern.n ≡ first.pattern.n },
+    pub ghost third_nodes: { third.pattern.n ≡ first.pattern.n },
+    pub ghost shared_pattern: { SharedPattern shared first.pattern.row_ptr.now first.pattern.col_idx.now
+        third.pattern.row_ptr.now third.pattern.col_idx.now },
+}
+
+// scale · (A3 - 2 A2 + A1) at a place, from a1, a2 and a3, the products with the samples there.
+pub fn second_difference(scale: f64, a1: f64, a2: f64, a3: f64) -> f64
+    ensures { result ≡ second_difference_of (ieee binary64) scale a1 a2 a3 }
+{
+    scale * (-a3 + a2 + a2 - a1)
+}
 
 // B3 x from the products of x.
 fn b3_sum(work: &mut [f64], n: usize, tau: f64)
@@ -60,56 +81,33 @@ fn b3_sum(work: &mut [f64], n: usize, tau: f64)
     let target = 11 * n;
     let scale = tau * TEN_OVER_3;
     for i in 0..n {
-        work[target + i] = scale * (-work[a3 + i] + work[a2 + i] + work[a2 + i] - work[a1 + i]);
+        work[target + i] = second_difference(scale, work[a1 + i], work[a2 + i], work[a3 + i]);
     }
 }
 
 // B1 x, B2 x and B3 x, for the vector x at index `x`.
-pub fn form_b(
-    row_ptr1: &[usize],
-    col_idx1: &[u32],
-    vals1: &[f64],
-    row_ptr2: &[usize],
-    col_idx2: &[u32],
-    vals2: &[f64],
-    row_ptr3: &[usize],
-    col_idx3: &[u32],
-    vals3: &[f64],
-    shared: bool,
-    tau: f64,
-    work: &mut [f64],
-    n: usize,
-    x: usize,
-)
-    requires valued_pattern { ValuedPattern n row_ptr1.now col_idx1.now vals1.now }
-    requires valued_pattern_2 { ValuedPattern n row_ptr2.now col_idx2.now vals2.now }
-    requires valued_pattern_3 { ValuedPattern n row_ptr3.now col_idx3.now vals3.now
-        × SharedPattern shared row_ptr1.now col_idx1.now row_ptr3.now col_idx3.now }
-    requires n_in_bounds { (22 * n ≤ length work.old) × (x + n ≤ 6 * n) }
+pub fn form_b(samples: &Samples6<'_>, work: &mut [f64], x: usize)
+    requires room { 22 * samples.now.first.pattern.n ≤ length work.old }
+    requires x_in_bounds { x + samples.now.first.pattern.n ≤ 6 * samples.now.first.pattern.n }
     ensures { let w = work.old in
-        let L1 = row_product64 n row_ptr1.now col_idx1.now vals1.now in
-        let L2 = row_product64 n row_ptr2.now col_idx2.now vals2.now in
-        let L3 = row_product64 n row_ptr3.now col_idx3.now vals3.now in
-        BFormed (ieee binary64) n constants6 tau L1 L2 L3 (part x n w) w work.new }
+        let s = samples.now in
+        let n = s.first.pattern.n in
+        BFormed (ieee binary64) n constants6 s.tau (product_of s.first) (product_of s.second) (product_of s.third) (part x n w) w work.new }
 {
+    let n = samples.first.pattern.n;
     // L1 x, L3 x, L2 x
     two_products_in(
-        row_ptr1,
-        col_idx1,
-        vals1,
-        row_ptr3,
-        col_idx3,
-        vals3,
-        shared,
+        samples.first,
+        samples.third,
+        samples.shared,
         work,
-        n,
         x,
         6 * n,
         8 * n,
     );
-    product_in(row_ptr2, col_idx2, vals2, work, n, x, 7 * n);
+    product_in(samples.second, work, x, 7 * n);
     // B1 x, B2 x, B3 x
-    scale_within(work, n, -tau, 7 * n, 9 * n);
-    scaled_difference(work, n, tau * SQRT15_OVER_3, 6 * n, 8 * n, 10 * n);
-    b3_sum(work, n, tau);
+    scale_within(work, n, -samples.tau, 7 * n, 9 * n);
+    scaled_difference(work, n, samples.tau * SQRT15_OVER_3, 6 * n, 8 * n, 10 * n);
+    b3_sum(work, n, samples.tau);
 }

@@ -2,10 +2,14 @@
 // with its own n, row starts, columns and values.
 #![tactic(auto)]
 
-ghost use Rattle.magnus_graph_faults.specs.StepChecks.{sample};
+ghost use Rattle.magnus_graph_faults.specs.StepChecks.{sample_of};
 ghost use Rattle.magnus_graph_outcome.specs.StepOutcome.{step_input, Stepped, forward, adjoint};
 
 use error::Refusal;
+use graph_checks::CsrParts;
+use graph_rows::kernel::Sample;
+use magnus_graph_checks::binary64_values;
+use magnus_graph_helpers::factors::Factors;
 use magnus_graph_step::kernel::step4;
 use magnus_graph_step_checks::check_step;
 
@@ -15,14 +19,8 @@ pub const SQRT3_OVER_12_F64: f64 = 0.144_337_567_297_406_433;
 // The forward step: dst becomes exp(Ω)·src by the Taylor sum of degree 4. Refused by rows 6 and 1 to 5 of each sample, 9, 7, 8, and 10 for the
 // second n, src, dst and work, whose need is 5n; a refusal leaves every slice as it was. Accepted, the first 5n elements of work become +0.
 pub fn apply_exp_omega4_kernel(
-    n1: usize,
-    row_ptr1: &[usize],
-    col_idx1: &[u32],
-    vals1: &[f64],
-    n2: usize,
-    row_ptr2: &[usize],
-    col_idx2: &[u32],
-    vals2: &[f64],
+    first: CsrParts<'_>,
+    second: CsrParts<'_>,
     tau: f64,
     rho_bar_max: f64,
     convergence_radius_check: bool,
@@ -31,21 +29,15 @@ pub fn apply_exp_omega4_kernel(
     work: &mut [f64],
 ) -> Result<(), Refusal>
     ensures { Stepped forward (step_input
-        (sample n1 row_ptr1.now col_idx1.now vals1.now)
-        (sample n2 row_ptr2.now col_idx2.now vals2.now)
+        (sample_of first.entry)
+        (sample_of second.entry)
         tau rho_bar_max convergence_radius_check src.now dst.old work.old)
         result dst.new work.new }
 {
     step(
         1.0,
-        n1,
-        row_ptr1,
-        col_idx1,
-        vals1,
-        n2,
-        row_ptr2,
-        col_idx2,
-        vals2,
+        first,
+        second,
         tau,
         rho_bar_max,
         convergence_radius_check,
@@ -57,14 +49,8 @@ pub fn apply_exp_omega4_kernel(
 
 // The adjoint step: the same with the commutator's sign reversed.
 pub fn apply_exp_omega4_adj_kernel(
-    n1: usize,
-    row_ptr1: &[usize],
-    col_idx1: &[u32],
-    vals1: &[f64],
-    n2: usize,
-    row_ptr2: &[usize],
-    col_idx2: &[u32],
-    vals2: &[f64],
+    first: CsrParts<'_>,
+    second: CsrParts<'_>,
     tau: f64,
     rho_bar_max: f64,
     convergence_radius_check: bool,
@@ -73,21 +59,15 @@ pub fn apply_exp_omega4_adj_kernel(
     work: &mut [f64],
 ) -> Result<(), Refusal>
     ensures { Stepped adjoint (step_input
-        (sample n1 row_ptr1.now col_idx1.now vals1.now)
-        (sample n2 row_ptr2.now col_idx2.now vals2.now)
+        (sample_of first.entry)
+        (sample_of second.entry)
         tau rho_bar_max convergence_radius_check src.now dst.old work.old)
         result dst.new work.new }
 {
     step(
         -1.0,
-        n1,
-        row_ptr1,
-        col_idx1,
-        vals1,
-        n2,
-        row_ptr2,
-        col_idx2,
-        vals2,
+        first,
+        second,
         tau,
         rho_bar_max,
         convergence_radius_check,
@@ -100,14 +80,8 @@ pub fn apply_exp_omega4_adj_kernel(
 // The step with the commutator's sign.
 fn step(
     sign: f64,
-    n1: usize,
-    row_ptr1: &[usize],
-    col_idx1: &[u32],
-    vals1: &[f64],
-    n2: usize,
-    row_ptr2: &[usize],
-    col_idx2: &[u32],
-    vals2: &[f64],
+    first: CsrParts<'_>,
+    second: CsrParts<'_>,
     tau: f64,
     rho_bar_max: f64,
     convergence_radius_check: bool,
@@ -116,20 +90,14 @@ fn step(
     work: &mut [f64],
 ) -> Result<(), Refusal>
     ensures { Stepped sign (step_input
-        (sample n1 row_ptr1.now col_idx1.now vals1.now)
-        (sample n2 row_ptr2.now col_idx2.now vals2.now)
+        (sample_of first.entry)
+        (sample_of second.entry)
         tau rho_bar_max convergence_radius_check src.now dst.old work.old)
         result dst.new work.new }
 {
     let checked = check_step(
-        n1,
-        row_ptr1,
-        col_idx1,
-        vals1,
-        n2,
-        row_ptr2,
-        col_idx2,
-        vals2,
+        first,
+        second,
         tau,
         rho_bar_max,
         convergence_radius_check,
@@ -140,16 +108,17 @@ fn step(
     let Ok(()) = checked else {
         return checked;
     };
-    step4(
-        row_ptr1,
-        col_idx1,
-        vals1,
-        row_ptr2,
-        col_idx2,
-        vals2,
+    binary64_values(first.vals);
+    binary64_values(second.vals);
+    let factors = Factors {
         tau,
         sign,
-        SQRT3_OVER_12_F64,
+        s: SQRT3_OVER_12_F64,
+    };
+    step4(
+        Sample::from_parts(first),
+        Sample::from_parts(second),
+        factors,
         src,
         dst,
         work,

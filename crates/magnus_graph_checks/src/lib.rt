@@ -3,7 +3,9 @@
 // specs/StepChecks.antt says, for all inputs.
 #![tactic(auto)]
 
-ghost use Rattle.std.specs.Prelude.{◌≡◌, not};
+ghost use Rattle.std.specs.Prelude.{◌≡◌, not, ℕ, T, get_or};
+ghost use Rattle.std.specs.Float.{nan, binary64};
+ghost use Rattle.std.specs.Float.Ieee.{fits};
 ghost use Rattle.magnus_graph_faults.specs.StepChecks.{not_positive, bound_fault, tau_fault, radius_fault, room_fault};
 ghost use Rattle.magnus_graph_faults.specs.StepChecks.{step_length_fault, lengths_fault};
 
@@ -79,3 +81,9 @@ pub fn check_lengths(n: usize, second: usize, signal: usize, output: usize) -> R
     check_length(signal, n)?;
     check_length(output, n)
 }
+
+// Does nothing, and promises what the type of a slice says of its values: each is a number of binary64. A proof knows that of a parameter that is
+// a slice, and not of a slice in a struct, as the values of a Laplacian's parts are.
+pub fn binary64_values(values: &[f64])
+    ensures { (i : ℕ) → T (fits binary64 (get_or values.now i nan)) }
+{}

@@ -8,20 +8,12 @@ pub fn reciprocal_factorial(k: usize) -> f64
     requires { (1 ≤ k) × (k ≤ 6) }
     ensures { result ≡ reciprocal_factorial binary64 k }
 {
-    if k == 6 {
-        return 1.0 / 720.0;
+    match k {
+        1 => 1.0 / 1.0,
+        2 => 1.0 / 2.0,
+        3 => 1.0 / 6.0,
+        4 => 1.0 / 24.0,
+        5 => 1.0 / 120.0,
+        _ => 1.0 / 720.0,
     }
-    if k == 5 {
-        return 1.0 / 120.0;
-    }
-    if k == 4 {
-        return 1.0 / 24.0;
-    }
-    if k == 3 {
-        return 1.0 / 6.0;
-    }
-    if k == 2 {
-        return 1.0 / 2.0;
-    }
-    1.0 / 1.0
 }

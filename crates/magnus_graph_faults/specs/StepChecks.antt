@@ -10,6 +10,7 @@ use Rattle.error.specs.Lengths.{length_fault}
 use Rattle.error.specs.declared.Refusal.TheVariants.{Tau, Radius, Bound, Length}
 use Rattle.error.specs.Answer.{Checked}
 use Rattle.graph_checks.specs.PatternChecks.{csr_fault}
+use Rattle.graph_checks.specs.declared.CsrParts.{CsrParts}
 open ieee binary64 use {zero, ◌*◌}
 
 infixl 70 ◌*◌
@@ -50,6 +51,10 @@ pub record Sample : Type 0 where
 
 abbrev pub sample : ℕ → List ℕ → List ℕ → List Float → Sample
 sample n starts cols vals = record { nodes = n; starts = starts; cols = cols; vals = vals }
+
+-- the sample of a Laplacian's parts, as a caller lends them
+abbrev pub sample_of : CsrParts → Sample
+sample_of p = sample p.n p.row_ptr.now p.col_idx.now p.vals.now
 
 -- one sample: 6, then 1 to 5
 unfoldable pub sample_fault : Sample → Checked

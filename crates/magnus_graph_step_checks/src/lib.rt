@@ -3,40 +3,26 @@
 #![tactic(auto)]
 
 ghost use Rattle.std.specs.Prelude.{◌≡◌};
-ghost use Rattle.magnus_graph_faults.specs.StepChecks.{sample, samples_fault, step_fault};
+ghost use Rattle.magnus_graph_faults.specs.StepChecks.{sample_of, samples_fault, step_fault};
 
 use error::Refusal;
+use graph_checks::{CsrParts, from_csr_parts};
 use magnus_graph_checks::{check_bound, check_lengths, check_room, check_step_length};
 
 // Rows 6 and 1 to 5 of both samples, one wholly before the next.
-pub fn check_samples(
-    n1: usize,
-    row_ptr1: &[usize],
-    col_idx1: &[u32],
-    vals1: &[f64],
-    n2: usize,
-    row_ptr2: &[usize],
-    col_idx2: &[u32],
-    vals2: &[f64],
-) -> Result<(), Refusal>
+pub fn check_samples(first: CsrParts<'_>, second: CsrParts<'_>) -> Result<(), Refusal>
     ensures { result ≡ samples_fault
-        (sample n1 row_ptr1.now col_idx1.now vals1.now)
-        (sample n2 row_ptr2.now col_idx2.now vals2.now) }
+        (sample_of first.entry)
+        (sample_of second.entry) }
 {
-    graph_checks::from_csr_parts(n1, row_ptr1, col_idx1, vals1)?;
-    graph_checks::from_csr_parts(n2, row_ptr2, col_idx2, vals2)
+    from_csr_parts(first)?;
+    from_csr_parts(second)
 }
 
 // All checks of an unweighted step. rho_bar_max is the spectral bound; signal, output and work are lengths.
 pub fn check_step(
-    n1: usize,
-    row_ptr1: &[usize],
-    col_idx1: &[u32],
-    vals1: &[f64],
-    n2: usize,
-    row_ptr2: &[usize],
-    col_idx2: &[u32],
-    vals2: &[f64],
+    first: CsrParts<'_>,
+    second: CsrParts<'_>,
     tau: f64,
     rho_bar_max: f64,
     radius_check: bool,
@@ -45,13 +31,13 @@ pub fn check_step(
     work: usize,
 ) -> Result<(), Refusal>
     ensures { result ≡ step_fault
-        (sample n1 row_ptr1.now col_idx1.now vals1.now)
-        (sample n2 row_ptr2.now col_idx2.now vals2.now)
+        (sample_of first.entry)
+        (sample_of second.entry)
         tau rho_bar_max radius_check signal output work }
 {
-    check_samples(n1, row_ptr1, col_idx1, vals1, n2, row_ptr2, col_idx2, vals2)?;
+    check_samples(first, second)?;
     check_bound(rho_bar_max)?;
     check_step_length(tau, rho_bar_max, radius_check)?;
-    check_lengths(n1, n2, signal, output)?;
-    check_room(work, 5 * n1)
+    check_lengths(first.n, second.n, signal, output)?;
+    check_room(work, 5 * first.n)
 }

@@ -46,16 +46,7 @@ impl<'a> Omega for Omega4<'a> {
         product_in(self.second, work, n, b);
         product_in(self.first, work, b, n);
         product_in(self.second, work, a, c);
-        omega_sum(
-            work,
-            n,
-            a,
-            b,
-            c,
-            n,
-            self.factors.scale(),
-            self.factors.comm_scale(),
-        );
+        omega_sum(work, n, a, b, c, n, self.factors);
         add_scaled(work, n, coefficient, n, 0);
     }
 }

@@ -1,12 +1,15 @@
 // Runs along a trajectory: the forward run (magnus_graph.rs; 01, part 10) and the adjoint run (magnus_graph_adjoint.rs; 01, part 8).
 #![tactic(auto)]
 
-ghost use Rattle.graph_traj_parts.specs.Trajectory.{trajectory};
+ghost use Rattle.graph_traj_parts.specs.Trajectory.{trajectory_of};
 ghost use Rattle.magnus_graph_traj_outcome.specs.RunOutcome.{forward_run, adjoint_run, Ran};
 
 use error::Refusal;
 use graph_traj_adjoint_checks::check_adjoint_run;
 use graph_traj_checks::check::check_run;
+use graph_traj_parts::Trajectory;
+use graph_traj_parts::kernel::CheckedTrajectory;
+use magnus_graph_checks::binary64_values;
 use magnus_graph_traj_adjoint_run::kernel::run_adjoint_steps;
 use magnus_graph_traj_finish::kernel::finish_run;
 use magnus_graph_traj_run::kernel::run_all_segments;
@@ -15,15 +18,8 @@ use scratch::kernel::{load, store};
 // The forward run: dst becomes src after `steps` steps in each segment. Refused before the first step by rows 6, 1 to 4, 13, 14, 15, 19,
 // 5, 9, 16, 17, 10 for src, dst and work, whose need is 7n + 2m, and 8 by segment: every slice is as it was. Refused by row 20 in a step,
 // dst is as it was. Once there was a step, the first 7n + 2m elements of work become +0.
-pub fn evolve_with_traj_into<'a>(
-    n: usize,
-    row_ptr: &[usize],
-    col_idx: &[u32],
-    segments: usize,
-    breakpoints: &[f64],
-    starts: &'a [f64],
-    ends: &'a [f64],
-    laws: &[u8],
+pub fn evolve_with_traj_into(
+    trajectory: Trajectory<'_>,
     steps: usize,
     rho_bar_max: f64,
     convergence_radius_check: bool,
@@ -31,20 +27,12 @@ pub fn evolve_with_traj_into<'a>(
     dst: &mut [f64],
     work: &mut [f64],
 ) -> Result<(), Refusal>
-    ensures { Ran (forward_run (trajectory n row_ptr.now col_idx.now segments
-        breakpoints.now starts.now ends.now laws.now)
+    ensures { Ran (forward_run (trajectory_of trajectory.entry)
         steps rho_bar_max convergence_radius_check src.now dst.old work.old)
         result dst.new work.new }
 {
     let checked = check_run(
-        n,
-        row_ptr,
-        col_idx,
-        segments,
-        breakpoints,
-        starts,
-        ends,
-        laws,
+        trajectory,
         steps,
         rho_bar_max,
         convergence_radius_check,
@@ -55,20 +43,12 @@ pub fn evolve_with_traj_into<'a>(
     let Ok(()) = checked else {
         return checked;
     };
-    let need = 7 * n + 2 * col_idx.len();
+    binary64_values(trajectory.starts);
+    binary64_values(trajectory.ends);
+    let need = 7 * trajectory.n + 2 * trajectory.col_idx.len();
     load(work, 0, src);
-    let taken = run_all_segments(
-        n,
-        row_ptr,
-        col_idx,
-        segments,
-        breakpoints,
-        starts,
-        ends,
-        laws,
-        steps,
-        work,
-    );
+    let along = CheckedTrajectory { parts: trajectory };
+    let taken = run_all_segments(along, steps, work);
     finish_run(taken, work, need, dst)
 }
 
@@ -76,15 +56,8 @@ pub fn evolve_with_traj_into<'a>(
 // commutator's sign reversed. Refused before the first step by rows 6, 1 to 4, 13, 14, 15, 17, 19, 5, 9, 16, 7, 8 and 10; what a refusal
 // and the steps leave is as in the forward run. No steps copy src and leave work as it was; they do not meet rows 16, 7 and 8, nor row 10
 // for work.
-pub fn evolve_state_adjoint_into<'a>(
-    n: usize,
-    row_ptr: &[usize],
-    col_idx: &[u32],
-    segments: usize,
-    breakpoints: &[f64],
-    starts: &'a [f64],
-    ends: &'a [f64],
-    laws: &[u8],
+pub fn evolve_state_adjoint_into(
+    trajectory: Trajectory<'_>,
     tau: f64,
     steps: usize,
     rho_bar_max: f64,
@@ -93,20 +66,12 @@ pub fn evolve_state_adjoint_into<'a>(
     dst: &mut [f64],
     work: &mut [f64],
 ) -> Result<(), Refusal>
-    ensures { Ran (adjoint_run (trajectory n row_ptr.now col_idx.now segments
-        breakpoints.now starts.now ends.now laws.now)
+    ensures { Ran (adjoint_run (trajectory_of trajectory.entry)
         tau steps rho_bar_max convergence_radius_check src.now dst.old work.old)
         result dst.new work.new }
 {
     let checked = check_adjoint_run(
-        n,
-        row_ptr,
-        col_idx,
-        segments,
-        breakpoints,
-        starts,
-        ends,
-        laws,
+        trajectory,
         tau,
         steps,
         rho_bar_max,
@@ -118,24 +83,15 @@ pub fn evolve_state_adjoint_into<'a>(
     let Ok(()) = checked else {
         return checked;
     };
+    binary64_values(trajectory.starts);
+    binary64_values(trajectory.ends);
     if steps == 0 {
         store(src, 0, dst);
         return Ok(());
     }
-    let need = 7 * n + 2 * col_idx.len();
+    let need = 7 * trajectory.n + 2 * trajectory.col_idx.len();
     load(work, 0, src);
-    let taken = run_adjoint_steps(
-        n,
-        row_ptr,
-        col_idx,
-        segments,
-        breakpoints,
-        starts,
-        ends,
-        laws,
-        tau,
-        steps,
-        work,
-    );
+    let along = CheckedTrajectory { parts: trajectory };
+    let taken = run_adjoint_steps(along, tau, steps, work);
     finish_run(taken, work, need, dst)
 }

@@ -1,5 +1,4 @@
--- One step of an unweighted run: what it asks holds of an accepted trajectory, and told by the value of its segment it is the step of the
--- run's course. Assumes nothing.
+-- One step of an unweighted run, told by the value of its segment, is the step of the run's course. Assumes nothing.
 use mathlib.Core.Path.{◌≡◌, ap, ◌∙◌, subst₂}
 use mathlib.Core.List.{List, [], ◌∷◌}
 use Prim.Native.Nat.{ℕ, ◌+◌, ◌*◌, ◌≤◌, ◌<◌}
@@ -22,38 +21,6 @@ use Rattle.magnus_graph_traj_steps.proofs.StepsTaken.{one-taken}
 use Rattle.magnus_graph_traj_steps.proofs.Walk.{StepsWalked}
 use Rattle.magnus_graph_traj_step.specs.RunStepTaken.{RunStepTaken}
 use Rattle.magnus_graph_traj_run.specs.StepAt.{StepAt}
-
--- what a step in segment k of an accepted trajectory asks
-module _ (t : Trajectory) (accepted : AcceptedTrajectory t) (k : ℕ) (l : k < t.segments) where
-  pub few-segments : k ≤ 65535
-  few-segments = omega (arith, l, accepted.times.few-segments)
-
-  pub law-given : k < length t.laws
-  law-given = rw accepted.counts.of_laws l
-
-  pub law-known : get_or t.laws k 0 ≤ 2
-  law-known = accepted.lists.known-laws k law-given
-
-  pub lists-given : (k * length t.cols + length t.cols ≤ length t.starts) × (k * length t.cols + length t.cols ≤ length t.ends)
-  lists-given =
-      let within = list-within k t.segments (length t.cols) l in
-      (rw accepted.counts.of-starts within, rw accepted.counts.of-ends within)
-
--- the samples lie where the segment says
-pub step-at : (t : Trajectory) (k : ℕ) (segment : Segment) (start sign : Float) {answer : Checked} {w w' : List Float}
-    (t1 f1 t2 f2 : Float)
-    → t1 ≡ sample_time start c1 segment.tau
-    → f1 ≡ fraction t1 segment.start segment.end
-    → t2 ≡ sample_time start c2 segment.tau
-    → f2 ≡ fraction t2 segment.start segment.end
-    → RunStepTaken t.nodes t.row_starts t.cols (get_or t.laws k 0) t.starts t.ends k segment.tau f1 f2 sign answer w w'
-    → StepAt t k segment start sign answer w w'
-step-at t k segment start sign {answer} {w} {w'} t1 f1 t2 f2 p1 q1 p2 q2 taken =
-    let at : Float → Float = λ x. fraction x segment.start segment.end in
-    subst₂
-    (λ (x y : Float).
-    RunStepTaken t.nodes t.row_starts t.cols (get_or t.laws k 0) t.starts t.ends k segment.tau x y sign answer w w')
-    (q1 ∙ ap at p1) (q2 ∙ ap at p2) taken
 
 -- the segment from breakpoint k to the next, with so long steps, before its step j
 abbrev pub segment_at : Trajectory → ℕ → Float → ℕ → Segment

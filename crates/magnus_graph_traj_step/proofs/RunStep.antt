@@ -21,7 +21,7 @@ use Rattle.error.proofs.Checks.{accepted-then}
 use Rattle.graph_rows.specs.RowProduct.{row_product64}
 use Rattle.graph_checks.proofs.First.{accepts-none}
 use Rattle.graph_pairs.specs.Pairs.{firsts, seconds}
-use Rattle.magnus.specs.Operators.{omega4}
+use Rattle.magnus.specs.Operators.{Operator, omega4}
 use Rattle.magnus.specs.Coefficients.{reciprocal_factorial}
 use Rattle.magnus_graph_helpers.specs.Terms.{TermsAdded}
 use Rattle.magnus_graph_faults.proofs.StepSound.{refused-not-accepted}
@@ -31,10 +31,16 @@ use Rattle.graph_traj_laws.specs.Laws.{law_values, by_law, values_at, law_list}
 use Rattle.graph_traj_laws.proofs.Laws.{law-values, law-list-has}
 use Rattle.graph_traj_samples.specs.Sampled.{sampled_fault, law_pairs}
 use Rattle.graph_traj_samples.proofs.Sampled.{first-values, second-values}
-use Rattle.magnus_graph_traj_terms.proofs.SampledTerms.{sampled_omega}
 use Rattle.magnus_graph_traj_step.specs.RunStepTaken.{RunStepTaken}
 
 -- ---- the step under law 2
+
+-- Ω with the samples whose values lie as pairs at 7n of the work slice w
+abbrev pub sampled_omega : (n : ℕ) → List ℕ → List ℕ → Float → Float → List Float → Operator (ieee binary64) n
+sampled_omega n row_starts cols sign τ w =
+    let values = part (7 * n) (2 * length cols) w in
+    let L = row_product64 n row_starts cols in
+    omega4 (ieee binary64) n minus_half sqrt3_over12 sign τ (L (firsts (ieee binary64) (length cols) values)) (L (seconds (ieee binary64) (length cols) values))
 
 module _ (n : ℕ) (row_starts cols : List ℕ) (starts ends : List Float) (k : ℕ) (τ f1 f2 sign : Float) where
   abbrev lists : List Float

@@ -8,7 +8,8 @@ ghost use Rattle.refusal_rows.specs.Row.{row_number, row_values};
 
 use error::Refusal;
 
-// A number with its values: one count, one real or two reals.
+// A number with its values: one count, one real or two reals. With the number in a struct beside an enum of values, a row below would be two
+// literals in place of one, which is no plainer.
 #[derive(Clone, Copy)]
 pub enum Row {
     Count(u64, usize),

@@ -1,115 +1,105 @@
-// What a call must answer, and whether it answered that.
+// Whether a call answered and wrote what its case says.
 #![tactic(auto)]
 
 use error::Refusal;
-use float_bits::has_bits;
+use float_bits::{from_bits, has_bits};
 use refusal_rows::{Row, row_of};
-use replay_fields::{ends_with_reals, further, number16, number64};
+use replay_fields::parts::Refused;
+use replay_fields::{Fault, Field, Fields};
 
 pub mod texts;
 
-// An answer that is expected: its number, which is 0 for an acceptance and else the row of document 01's table; how many
-// values it has; and the first two of them, a count as a number and a real as its bits.
-#[derive(Clone, Copy)]
-pub struct Answer {
-    pub number: u64,
-    pub values: u64,
-    pub first: u64,
-    pub second: u64,
-}
-
-// The answer at a position of a case.
-pub fn answer_at(fields: &[u8], at: usize) -> Answer {
-    let number = number16(fields, at);
-    let values = number16(fields, further(at, 2));
-    let first = number64(fields, further(at, 4));
-    let second = number64(fields, further(at, 12));
-    Answer {
-        number,
-        values,
-        first,
-        second,
-    }
-}
-
-// The position after the answer at a position.
-pub fn after_answer(fields: &[u8], at: usize) -> usize {
-    further(at, 4 + 8 * number16(fields, further(at, 2)) as usize)
-}
-
-// The acceptance.
-pub fn acceptance() -> Answer {
-    Answer {
-        number: 0,
-        values: 0,
-        first: 0,
-        second: 0,
-    }
-}
-
-// Row 6 of the table, with a size.
-pub fn size_refusal(size: u64) -> Answer {
-    Answer {
-        number: 6,
-        values: 1,
-        first: size,
-        second: 0,
-    }
-}
-
-// Whether the acceptance is expected.
-pub fn is_acceptance(expected: Answer) -> bool {
-    expected.number == 0 && expected.values == 0
-}
-
-// Whether a row with one count is expected.
-fn is_count(expected: Answer, number: u64, count: usize) -> bool {
-    expected.number == number && expected.values == 1 && expected.first == count as u64
-}
-
-// Whether a row with one real is expected.
-fn is_real(expected: Answer, number: u64, x: f64) -> bool {
-    expected.number == number && expected.values == 1 && has_bits(x, expected.first)
-}
-
-// Whether a row with two reals is expected.
-fn is_two_reals(expected: Answer, number: u64, x: f64, y: f64) -> bool {
-    expected.number == number
-        && expected.values == 2
-        && has_bits(x, expected.first)
-        && has_bits(y, expected.second)
-}
-
-// Whether a refusal is expected: its row of the table, with its values.
-pub fn is_refusal(expected: Answer, refusal: Refusal) -> bool {
-    match row_of(refusal) {
-        Row::Count(number, count) => is_count(expected, number, count),
-        Row::Real(number, x) => is_real(expected, number, x),
-        Row::Reals(number, x, y) => is_two_reals(expected, number, x, y),
-    }
-}
-
-// Whether what a check, or a call that writes to a lent slice, answered is expected.
-pub fn is_checked(expected: Answer, checked: Result<(), Refusal>) -> bool {
-    match checked {
-        Ok(()) => is_acceptance(expected),
-        Err(refusal) => is_refusal(expected, refusal),
-    }
-}
-
-// Whether a call answered and wrote what the case ends with from a position on: the answer, then the written slice.
-pub fn written_right(checked: Result<(), Refusal>, written: &[f64], fields: &[u8], at: usize) -> bool {
-    is_checked(answer_at(fields, at), checked)
-        && ends_with_reals(fields, after_answer(fields, at), written)
-}
-
-// Whether so many elements at the start of the work slice are +0, and each other one has the bits from before the call.
-pub fn work_right(work: &[f64], cleared: usize, before: u64) -> bool {
-    for i in 0..work.len() {
-        let bits = if i < cleared { 0 } else { before };
-        if !has_bits(work[i], bits) {
-            return false;
+// Whether a refusal is the expected one: its row of the table, with its values.
+fn is_refusal(refusal: Refusal, expected: &Refused) -> bool {
+    let expected_number = expected.number as u64;
+    match (row_of(refusal), expected.values.as_slice()) {
+        (Row::Count(number, count), [value]) => {
+            number == expected_number && count as u64 == *value
         }
+        (Row::Real(number, x), [bits]) => number == expected_number && has_bits(x, *bits),
+        (Row::Reals(number, x, y), [x_bits, y_bits]) => {
+            number == expected_number && has_bits(x, *x_bits) && has_bits(y, *y_bits)
+        }
+        _ => false,
     }
-    true
+}
+
+// Whether what a call answered is expected: the same refusal, or values that are the same where both accept.
+pub fn is_answer<A: Drop, E, F: Fn(A, &E) -> bool + Drop>(
+    answered: Result<A, Refusal>,
+    expected: &Result<E, Refused>,
+    is_same: F,
+) -> bool
+    requires { F.IsAlwaysCallable is_same }
+{
+    match (answered, expected) {
+        (Ok(value), Ok(expected)) => is_same(value, expected),
+        (Err(refusal), Err(refused)) => is_refusal(refusal, refused),
+        _ => false,
+    }
+}
+
+// Whether what a call that gives no value answered is expected.
+pub fn is_checked<E>(answered: Result<(), Refusal>, expected: &Result<E, Refused>) -> bool {
+    is_answer(answered, expected, |_, _| true)
+}
+
+// Whether the values are the reals of so many bit patterns. Any NaN matches any NaN.
+pub fn are_reals(values: &[f64], bits: &[u64]) -> bool {
+    values.len() == bits.len() && values.iter().zip(bits).all(|(x, bits)| has_bits(*x, *bits))
+}
+
+// What a call that writes to a lent slice must leave: its answer, and the bits of what is in the slice then.
+#[derive(Drop)]
+pub struct Outcome {
+    pub answer: Result<(), Refused>,
+    pub written: Vec<u64>,
+}
+
+impl Field for Outcome {
+    fn read(fields: &mut Fields<'_>) -> Result<Outcome, Fault> {
+        Ok(Outcome {
+            answer: fields.read()?,
+            written: fields.slice()?,
+        })
+    }
+}
+
+impl Outcome {
+    // Whether the call answered and wrote that.
+    pub fn is(&self, answered: Result<(), Refusal>, written: &[f64]) -> bool {
+        is_checked(answered, &self.answer) && are_reals(written, &self.written)
+    }
+}
+
+// The most elements of a work slice of the lists.
+const MOST_WORK: usize = 176_129;
+
+// The work slice of a step or a run, whose elements are all the same before the call, and the bits of each.
+#[derive(Drop)]
+pub struct Work {
+    pub elements: Vec<f64>,
+    before: u64,
+}
+
+// Its length and the bits of an element.
+impl Field for Work {
+    fn read(fields: &mut Fields<'_>) -> Result<Work, Fault> {
+        let length: usize = fields.read()?;
+        let before: u64 = fields.read()?;
+        if MOST_WORK < length {
+            return Err(Fault::Malformed);
+        }
+        let elements = vec![in fields.alloc(); from_bits(before); length]?;
+        Ok(Work { elements, before })
+    }
+}
+
+impl Work {
+    // Whether so many elements at the start are +0, and each other one is as it was before.
+    pub fn is_cleared(&self, cleared: usize) -> bool {
+        let before = self.before;
+        let (start, rest) = self.elements.split_at(cleared.min(self.elements.len()));
+        start.iter().all(|x| has_bits(*x, 0)) && rest.iter().all(|x| has_bits(*x, before))
+    }
 }

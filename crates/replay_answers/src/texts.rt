@@ -1,54 +1,34 @@
 // Printed texts, compared.
-use little_endian::kernel::byte;
-use replay_fields::further;
 
-// Whether a byte is a hexadecimal digit as they are printed: 0 to 9 and a to f.
-fn is_digit(byte: u64) -> bool {
-    48 <= byte && byte <= 57 || 97 <= byte && byte <= 102
+// Whether a byte is a hexadecimal digit as they are printed.
+fn is_digit(byte: u8) -> bool {
+    matches!(byte, b'0'..=b'9' | b'a'..=b'f')
 }
 
-// Whether 13 digits stand at a position, not all of them 0.
-fn has_fraction(text: &[u8], at: usize) -> bool {
-    let mut zero = true;
-    let mut next = at;
-    for _ in 0..13usize {
-        let digit = byte(text, next);
-        if !is_digit(digit) {
-            return false;
-        }
-        if digit != 48 {
-            zero = false;
-        }
-        next = further(next, 1);
-    }
-    !zero
-}
-
-// Whether the 16 digits of a NaN stand at a position: 7ff or fff, then a fraction that is not 0.
-fn has_nan(text: &[u8], at: usize) -> bool {
-    let first = byte(text, at);
-    let second = byte(text, further(at, 1));
-    let third = byte(text, further(at, 2));
-    (first == 55 || first == 102)
-        && second == 102
-        && third == 102
-        && has_fraction(text, further(at, 3))
+// Whether a text starts with the 16 digits of a NaN: 7ff or fff, then a fraction that is not 0.
+fn starts_with_nan(text: &[u8]) -> bool {
+    let [b'7' | b'f', b'f', b'f', rest @ ..] = text else {
+        return false;
+    };
+    rest.get(..13).is_some_and(|fraction| {
+        fraction.iter().all(|digit| is_digit(*digit)) && fraction.iter().any(|digit| *digit != b'0')
+    })
 }
 
 // Whether two texts are the same, but for which NaN each has. No other text has 16 digits on end.
 pub fn are_alike(text: &[u8], expected: &[u8]) -> bool {
-    if text.len() != expected.len() {
-        return false;
-    }
-    let mut next = 0;
-    for i in 0..text.len() {
-        if next <= i {
-            if has_nan(text, i) && has_nan(expected, i) {
-                next = further(i, 16);
-            } else if byte(text, i) != byte(expected, i) {
-                return false;
-            }
+    let mut text = text;
+    let mut expected = expected;
+    while let ([byte, rest @ ..], [expected_byte, expected_rest @ ..]) = (text, expected) {
+        if starts_with_nan(text) && starts_with_nan(expected) {
+            text = text.get(16..).unwrap_or(&[]);
+            expected = expected.get(16..).unwrap_or(&[]);
+        } else if byte == expected_byte {
+            text = rest;
+            expected = expected_rest;
+        } else {
+            return false;
         }
     }
-    true
+    text.is_empty() && expected.is_empty()
 }

@@ -4,49 +4,24 @@
 
 use job_run::run_job;
 use job_text::TEXT;
-use replay::{Tally, next_case};
+use replay::replay;
 use replay_answers::texts::are_alike;
-use replay_fields::{further, number32};
+use replay_fields::{Fault, Fields};
+use std::io;
 
-// Whether a text is the one with which the case ends from a position on.
-fn text_right(text: &[u8], fields: &[u8], at: usize) -> bool {
-    let start = further(at, 4);
-    if fields.len() < start {
-        return false;
+// Whether the job of a case, which has kind 20, is answered by the text behind it.
+fn is_right(kind: u16, fields: &mut Fields<'_>) -> Result<bool, Fault> {
+    if kind != 20 {
+        return Err(Fault::Malformed);
     }
-    number32(fields, at) as usize == text.len() && are_alike(text, &fields[start..])
+    let job = fields.byte_slice()?;
+    let expected = fields.byte_slice()?;
+    let mut text = [0; TEXT];
+    let length = run_job(job, &mut text);
+    Ok(are_alike(&text[..length], expected))
 }
 
-// Whether the job with which the case starts is answered by the text behind it.
-fn job_right(fields: &[u8]) -> bool {
-    let end = further(4, number32(fields, 0) as usize);
-    if end < 4 || fields.len() < end {
-        return false;
-    }
-    let mut text = [0u8; TEXT];
-    let length = run_job(&fields[4..end], &mut text);
-    text_right(&text[..length], fields, end)
-}
-
-// One case more.
-fn step(buffer: &mut [u8], tally: Tally) -> Tally {
-    let case = next_case(buffer);
-    if !case.found {
-        return tally.stopped(case.whole);
-    }
-    let len = case.len;
-    tally.counted(case.kind == 20 && job_right(&buffer[..len]))
-}
-
-fn main() {
-    let mut space = io::large_buffer();
-    let buffer: &mut [u8] = &mut space;
-    let mut tally = Tally::new();
-    for _ in 0..1_000_001usize {
-        if tally.ended {
-            break;
-        }
-        tally = step(buffer, tally);
-    }
-    tally.summary();
+fn main(rt: HostRuntime) -> io::Result<()> {
+    let tally = replay(&rt, is_right)?;
+    println!(rt; "{tally}")
 }

@@ -2,52 +2,61 @@
 // writes are compared in every bit. Any NaN matches any NaN. After the list come the cases that are too large for one.
 #![tactic(auto)]
 
-use crate::networks::network_right;
-use crate::signals::signal_right;
-use replay::{Tally, next_case};
+use crate::networks::{bound_right, parts_right, product_right};
+use crate::signals::{copy_right, sum_right};
+use replay::replay;
+use replay_fields::{Fault, Fields};
 use replay_limits::{
     most_columns_right, most_nodes_right, too_many_columns_right, too_many_nodes_right,
 };
+use std::io;
 
 mod networks;
 mod signals;
 
-// Whether the call of a kind does what the case says.
-fn right(kind: u64, fields: &[u8]) -> bool {
-    match kind {
-        2..=4 => network_right(kind, fields),
-        5..=6 => signal_right(kind, fields),
-        _ => false,
-    }
+// The calls of the cases.
+#[derive(Clone, Copy)]
+enum Call {
+    FromCsrParts,
+    GershgorinBoundCsr,
+    ApplyIntoSlice,
+    CopyFrom,
+    AxpyIntoSlice,
 }
 
-// One case more.
-fn step(buffer: &mut [u8], tally: Tally) -> Tally {
-    let case = next_case(buffer);
-    if !case.found {
-        return tally.stopped(case.whole);
-    }
-    let len = case.len;
-    tally.counted(right(case.kind, &buffer[..len]))
-}
+// The call of the cases of a kind.
+impl TryFrom<u16> for Call {
+    type Error = Fault;
 
-// The cases at the limits, one after the other.
-fn limits_counted(tally: Tally) -> Tally {
-    let tally = tally.counted(too_many_columns_right());
-    let tally = tally.counted(most_columns_right());
-    let tally = tally.counted(most_nodes_right());
-    tally.counted(too_many_nodes_right())
-}
-
-fn main() {
-    let mut space = io::large_buffer();
-    let buffer: &mut [u8] = &mut space;
-    let mut tally = Tally::new();
-    for _ in 0..1_000_001usize {
-        if tally.ended {
-            break;
+    fn try_from(kind: u16) -> Result<Call, Fault> {
+        match kind {
+            2 => Ok(Call::FromCsrParts),
+            3 => Ok(Call::GershgorinBoundCsr),
+            4 => Ok(Call::ApplyIntoSlice),
+            5 => Ok(Call::CopyFrom),
+            6 => Ok(Call::AxpyIntoSlice),
+            _ => Err(Fault::Malformed),
         }
-        tally = step(buffer, tally);
     }
-    limits_counted(tally).summary();
+}
+
+// Whether the call of a kind does what the case says.
+fn is_right(kind: u16, fields: &mut Fields<'_>) -> Result<bool, Fault> {
+    match Call::try_from(kind)? {
+        Call::FromCsrParts => parts_right(fields),
+        Call::GershgorinBoundCsr => bound_right(fields),
+        Call::ApplyIntoSlice => product_right(fields),
+        Call::CopyFrom => copy_right(fields),
+        Call::AxpyIntoSlice => sum_right(fields),
+    }
+}
+
+fn main(rt: HostRuntime) -> io::Result<()> {
+    let alloc = rt.alloc();
+    let mut tally = replay(&rt, is_right)?;
+    tally.count(&rt, too_many_columns_right(alloc)?)?;
+    tally.count(&rt, most_columns_right(alloc)?)?;
+    tally.count(&rt, most_nodes_right(alloc)?)?;
+    tally.count(&rt, too_many_nodes_right(alloc)?)?;
+    println!(rt; "{tally}")
 }

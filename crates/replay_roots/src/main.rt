@@ -1,38 +1,23 @@
 // Replays a stored list of square roots: each root is worked out again and compared in every bit. Any NaN matches any NaN.
 #![tactic(auto)]
 
-use float_bits::{from_bits, has_bits};
-use little_endian::kernel::word64;
-use replay::{Tally, next_case};
+use float_bits::has_bits;
+use replay::replay;
+use replay_fields::{Fault, Fields};
 use square_root::sqrt;
+use std::io;
 
-// Whether the case whose fields stand at the start of the buffer is right.
-fn right(kind: u64, len: usize, fields: &[u8]) -> bool {
-    if kind != 1 || len != 16 {
-        return false;
+// Whether the root of a case, which has kind 1, is right.
+fn is_right(kind: u16, fields: &mut Fields<'_>) -> Result<bool, Fault> {
+    if kind != 1 {
+        return Err(Fault::Malformed);
     }
-    has_bits(sqrt(from_bits(word64(fields, 0))), word64(fields, 8))
+    let x: f64 = fields.read()?;
+    let bits: u64 = fields.read()?;
+    Ok(has_bits(sqrt(x), bits))
 }
 
-// One case more.
-fn step(buffer: &mut [u8], tally: Tally) -> Tally {
-    let case = next_case(buffer);
-    if !case.found {
-        return tally.stopped(case.whole);
-    }
-    let len = case.len;
-    tally.counted(right(case.kind, len, buffer))
-}
-
-fn main() {
-    let mut space = io::large_buffer();
-    let buffer: &mut [u8] = &mut space;
-    let mut tally = Tally::new();
-    for _ in 0..1_000_001usize {
-        if tally.ended {
-            break;
-        }
-        tally = step(buffer, tally);
-    }
-    tally.summary();
+fn main(rt: HostRuntime) -> io::Result<()> {
+    let tally = replay(&rt, is_right)?;
+    println!(rt; "{tally}")
 }

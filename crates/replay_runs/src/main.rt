@@ -3,39 +3,59 @@
 #![tactic(auto)]
 
 use crate::runs::run_right;
-use replay::{Tally, next_case};
+use replay::replay;
+use replay_fields::{Fault, Fields};
+use replay_run_fields::RunKind;
 use replay_run_fields::lookups::lookup_right;
+use replay_trajectories::Form;
+use std::io;
 
 mod runs;
 
+// The calls of the cases.
+#[derive(Clone, Copy)]
+enum Call {
+    Lookup,
+    Run(RunKind),
+}
+
+// A kind of cases: the call, and how a case gives its slices.
+#[derive(Clone, Copy)]
+struct Kind {
+    call: Call,
+    form: Form,
+}
+
+impl TryFrom<u16> for Kind {
+    type Error = Fault;
+
+    fn try_from(kind: u16) -> Result<Kind, Fault> {
+        let call = match kind {
+            12 | 16 => Call::Lookup,
+            13 | 17 => Call::Run(RunKind::Forward),
+            14 | 18 => Call::Run(RunKind::Adjoint),
+            15 | 19 => Call::Run(RunKind::WeightedAdjoint),
+            _ => return Err(Fault::Malformed),
+        };
+        let form = if kind < 16 {
+            Form::Stored
+        } else {
+            Form::ByRules
+        };
+        Ok(Kind { call, form })
+    }
+}
+
 // Whether the call of a kind does what the case says.
-fn right(kind: u64, fields: &[u8]) -> bool {
-    match kind {
-        12 | 16 => lookup_right(kind, fields),
-        13..=15 | 17..=19 => run_right(kind, fields),
-        _ => false,
+fn is_right(kind: u16, fields: &mut Fields<'_>) -> Result<bool, Fault> {
+    let kind = Kind::try_from(kind)?;
+    match kind.call {
+        Call::Lookup => lookup_right(kind.form, fields),
+        Call::Run(run) => run_right(run, kind.form, fields),
     }
 }
 
-// One case more.
-fn step(buffer: &mut [u8], tally: Tally) -> Tally {
-    let case = next_case(buffer);
-    if !case.found {
-        return tally.stopped(case.whole);
-    }
-    let len = case.len;
-    tally.counted(right(case.kind, &buffer[..len]))
-}
-
-fn main() {
-    let mut space = io::large_buffer();
-    let buffer: &mut [u8] = &mut space;
-    let mut tally = Tally::new();
-    for _ in 0..1_000_001usize {
-        if tally.ended {
-            break;
-        }
-        tally = step(buffer, tally);
-    }
-    tally.summary();
+fn main(rt: HostRuntime) -> io::Result<()> {
+    let tally = replay(&rt, is_right)?;
+    println!(rt; "{tally}")
 }

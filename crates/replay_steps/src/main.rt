@@ -2,39 +2,31 @@
 // compared in every bit. Any NaN matches any NaN.
 #![tactic(auto)]
 
-use crate::steps::step_right;
-use replay::{Tally, next_case};
+use crate::calls::apply;
+use replay::replay;
+use replay_answers::{Outcome, Work};
+use replay_fields::{Fault, Fields};
+use replay_step_fields::{StepKind, read_step};
+use std::io;
 
 mod calls;
-mod steps;
 
-// Whether the call of a kind does what the case says.
-fn right(kind: u64, fields: &[u8]) -> bool {
-    match kind {
-        7..=11 => step_right(kind, fields),
-        _ => false,
-    }
+// Whether the step of a kind does what the case says. An accepted step has an output of n elements; a refused one clears nothing of the work
+// slice.
+fn is_right(kind: u16, fields: &mut Fields<'_>) -> Result<bool, Fault> {
+    let step = read_step(StepKind::try_from(kind)?, fields)?;
+    let mut dst: Vec<f64> = fields.slice()?;
+    let mut work: Work = fields.read()?;
+    let outcome: Outcome = fields.read()?;
+    let cleared = match outcome.answer {
+        Ok(()) => dst.len().saturating_mul(step.call.cleared_by_node()),
+        Err(_) => 0,
+    };
+    let answered = apply(&step, &mut dst, &mut work.elements);
+    Ok(outcome.is(answered, &dst) && work.is_cleared(cleared))
 }
 
-// One case more.
-fn step(buffer: &mut [u8], tally: Tally) -> Tally {
-    let case = next_case(buffer);
-    if !case.found {
-        return tally.stopped(case.whole);
-    }
-    let len = case.len;
-    tally.counted(right(case.kind, &buffer[..len]))
-}
-
-fn main() {
-    let mut space = io::large_buffer();
-    let buffer: &mut [u8] = &mut space;
-    let mut tally = Tally::new();
-    for _ in 0..1_000_001usize {
-        if tally.ended {
-            break;
-        }
-        tally = step(buffer, tally);
-    }
-    tally.summary();
+fn main(rt: HostRuntime) -> io::Result<()> {
+    let tally = replay(&rt, is_right)?;
+    println!(rt; "{tally}")
 }

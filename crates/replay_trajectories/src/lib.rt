@@ -1,94 +1,132 @@
-// The fields of a trajectory: as they stand in the case, or by rules. Each slice is read to the start of its target.
+// The fields of a trajectory: as they stand in the case, or by rules.
 #![tactic(auto)]
 
-ghost use Rattle.replay_fields.specs.Counts.{Counts};
+use replay_fields::{Fault, Field, Fields};
+use replay_rules::{columns, repeat_one, repeat_slice, row_starts, sum_increments};
 
-use replay_fields::{Slice, further, number32, number64, read_columns, read_counts, read_reals};
-use replay_rules::{
-    BEYOND, Pattern, after_slice, by_rules, make_pattern, next_element, repeat_reals,
-    sum_increments,
-};
-
-// Reads n, the row starts and the columns with which a case of a kind starts.
-pub fn read_pattern(kind: u64, fields: &[u8], row_ptr: &mut [usize], col_idx: &mut [u32]) -> Pattern
-    ensures counts { Counts result.starts row_ptr.new }
-    ensures counts_2 { Counts result.columns col_idx.new }
-{
-    if by_rules(kind) {
-        return make_pattern(fields, 0, row_ptr, col_idx);
-    }
-    let n = number64(fields, 0) as usize;
-    let starts = read_counts(fields, 8, row_ptr);
-    let columns = read_columns(fields, starts.next, col_idx);
-    Pattern {
-        n,
-        starts: starts.count,
-        columns: columns.count,
-        next: columns.next,
-    }
+// How a case gives its slices.
+#[derive(Clone, Copy)]
+pub enum Form {
+    Stored,
+    ByRules,
 }
 
-// Reads the breakpoints.
-pub fn read_breakpoints(
-    kind: u64,
-    segments: usize,
-    fields: &[u8],
-    at: usize,
-    target: &mut [f64],
-) -> Slice
-    ensures { Counts result.count target.new }
-{
-    if by_rules(kind) {
-        return sum_increments(fields, at, segments, target);
-    }
-    read_reals(fields, at, target)
-}
-
-// Reads a slice of reals that has the length where rules give it.
-pub fn read_elements(
-    kind: u64,
-    length: usize,
-    fields: &[u8],
-    at: usize,
-    target: &mut [f64],
-) -> Slice
-    ensures { Counts result.count target.new }
-{
-    if by_rules(kind) {
-        return repeat_reals(fields, at, length, target);
-    }
-    read_reals(fields, at, target)
-}
-
-// Reads the laws, which are counts in a case and bytes in a call. By rules there is one for each segment: where those of the case end,
-// they start again from the first.
-pub fn read_laws(kind: u64, segments: usize, fields: &[u8], at: usize, target: &mut [u8]) -> Slice
-    ensures { Counts result.count target.new }
-{
-    let count = number32(fields, at) as usize;
-    let length = if by_rules(kind) { segments } else { count };
-    if target.len() < length {
-        return Slice {
-            count: 0,
-            next: BEYOND,
-        };
-    }
-    let first = further(at, 4);
-    let end = after_slice(fields, at);
-    let mut next = first;
-    for i in 0..length {
-        let law = number64(fields, next);
-        if 255 < law {
-            return Slice {
-                count: 0,
-                next: BEYOND,
-            };
+impl Form {
+    // Reads a slice that has the length where rules give it.
+    pub fn slice<T: Field + Copy>(
+        self,
+        fields: &mut Fields<'_>,
+        length: usize,
+    ) -> Result<Vec<T>, Fault> {
+        match self {
+            Form::Stored => fields.slice(),
+            Form::ByRules => repeat_slice(fields, length),
         }
-        target[i] = law as u8;
-        next = next_element(next, first, end);
     }
-    Slice {
-        count: length,
-        next: end,
+
+    // Reads the output before a call. By rules it has n elements, each the real that stands there.
+    pub fn output(self, fields: &mut Fields<'_>, n: usize) -> Result<Vec<f64>, Fault> {
+        match self {
+            Form::Stored => fields.slice(),
+            Form::ByRules => repeat_one(fields, n),
+        }
     }
+
+    // Reads the breakpoints of so many segments.
+    pub fn breakpoints(self, fields: &mut Fields<'_>, segments: usize) -> Result<Vec<f64>, Fault> {
+        match self {
+            Form::Stored => fields.slice(),
+            Form::ByRules => sum_increments(fields, segments),
+        }
+    }
+
+    // Reads the laws, which are counts in a case and bytes in a call.
+    fn laws(self, fields: &mut Fields<'_>, segments: usize) -> Result<Vec<u8>, Fault> {
+        let counts: Vec<u64> = self.slice(fields, segments)?;
+        let mut laws = Vec::new(fields.alloc());
+        for count in &counts {
+            laws.push(u8::try_from(*count)?)?;
+        }
+        Ok(laws)
+    }
+
+    // Reads the pattern.
+    fn pattern(self, fields: &mut Fields<'_>) -> Result<Pattern, Fault> {
+        match self {
+            Form::Stored => Ok(Pattern {
+                n: fields.read()?,
+                row_ptr: fields.slice()?,
+                col_idx: fields.slice()?,
+            }),
+            Form::ByRules => pattern_by_rules(fields),
+        }
+    }
+}
+
+// The pattern of every sample: n, the row starts and the columns.
+#[derive(Drop)]
+pub struct Pattern {
+    pub n: usize,
+    pub row_ptr: Vec<usize>,
+    pub col_idx: Vec<u32>,
+}
+
+// Reads the five counts by which a rule gives a pattern.
+fn pattern_by_rules(fields: &mut Fields<'_>) -> Result<Pattern, Fault> {
+    let n: usize = fields.read()?;
+    let first: usize = fields.read()?;
+    let width: usize = fields.read()?;
+    let entries: usize = fields.read()?;
+    let stride: usize = fields.read()?;
+    Ok(Pattern {
+        n,
+        row_ptr: row_starts(fields, n, first, width, entries)?,
+        col_idx: columns(fields, n, entries, stride)?,
+    })
+}
+
+// A trajectory: the pattern, and for each segment the values at its start and at its end, and the law between them.
+#[derive(Drop)]
+pub struct Trajectory {
+    pub pattern: Pattern,
+    pub segments: usize,
+    pub breakpoints: Vec<f64>,
+    pub starts: Vec<f64>,
+    pub ends: Vec<f64>,
+    pub laws: Vec<u8>,
+}
+
+impl Trajectory {
+    // Its parts, as the runs take them.
+    pub fn parts(&self) -> graph_traj_parts::Trajectory<'_> {
+        graph_traj_parts::Trajectory {
+            n: self.pattern.n,
+            row_ptr: &self.pattern.row_ptr,
+            col_idx: &self.pattern.col_idx,
+            segments: self.segments,
+            breakpoints: &self.breakpoints,
+            starts: &self.starts,
+            ends: &self.ends,
+            laws: &self.laws,
+        }
+    }
+}
+
+// Reads a trajectory.
+pub fn read_trajectory(form: Form, fields: &mut Fields<'_>) -> Result<Trajectory, Fault> {
+    let pattern = form.pattern(fields)?;
+    let segments: usize = fields.read()?;
+    let breakpoints = form.breakpoints(fields, segments)?;
+    let length = segments.saturating_mul(pattern.col_idx.len());
+    let starts = form.slice(fields, length)?;
+    let ends = form.slice(fields, length)?;
+    let laws = form.laws(fields, segments)?;
+    Ok(Trajectory {
+        pattern,
+        segments,
+        breakpoints,
+        starts,
+        ends,
+        laws,
+    })
 }

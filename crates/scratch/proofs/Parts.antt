@@ -3,13 +3,15 @@
 use mathlib.Core.Path.{◌≡◌, refl, sym, ap, ◌∙◌}
 use mathlib.Core.Logic.{◌⊎◌, ⊎_elim}
 use mathlib.Core.List.{List, [], ◌∷◌, ◌++◌, map, append_assoc, append-nil}
-use Prim.Native.Nat.{ℕ, suc, ◌+◌, ◌-◌, ◌≤◌, ◌<◌}
+use Prim.Native.Nat.{ℕ, zero, suc, ◌+◌, ◌-◌, ◌≤◌, ◌<◌}
 use native.Mathlib.Nat.{zero-add, add-zero, add-suc, suc-add}
+use native.Mathlib.Numerals.{add-one}
 use native.Mathlib.Decide.{dec_le}
 use native.Mathlib.Omega.{arith}
-use lib.ListN.{length, get_or, take, drop, set, length-take, length-drop, length-map, drop_of_length-le}
-use lib.Seq.{sets, length-sets, sets-eq, set-set, set_comm, drop-set-lt, drop-set-add, take-set-le, take_at, drop_at, drop-drop}
+use lib.ListN.{length, get_or, take, drop, set, replicate, length-take, length-drop, length-map, drop_of_length-le}
+use lib.Seq.{sets, length-sets, sets-eq, set-set, set_comm, drop-set-lt, drop-set-add, take-set-le, take_at, drop_at, drop-drop, paste}
 use lib.Seq.{length-take-le, take-length, get_or-take, get_or-drop, ext_get_or}
+use Rattle.std.proofs.lemmas.List.{replicate_more}
 use Rattle.arithmetic.specs.Vector.{tabulate}
 use Rattle.arithmetic.proofs.Tabulate.{length-tabulate, get_d_tabulate, tabulate-none, tabulate-next, tabulate-same}
 use Rattle.scratch.specs.Parts.{part, put, Apart}
@@ -81,16 +83,43 @@ module _ {A : Type 0} where
   unfolding put
   put_next at f i w = rw (tabulate-next, sets-append, length-tabulate f i)
 
+  -- the elements from index `at` on, lent to a call that made them v, are that vector written there
+  pub put_lent : (at : ℕ) (v w x : List A) → at + length v ≤ length w → x ≡ v
+      → take at w ++ (x ++ drop (at + length v - at) (drop at w)) ≡ put at v w
+  unfolding put
+  put_lent at v w x h e =
+      let m : at + length v - at ≡ length v = omega arith in
+      rw (e, m, drop-drop, sets-eq v w at h, append_assoc)
+
+  -- the first n elements, lent likewise
+  pub put_lent_first : (n : ℕ) (v w x : List A) → length v ≡ n → n ≤ length w → x ≡ v → x ++ drop n w ≡ put 0 v w
+  unfolding put
+  put_lent_first n v w x l h e = rw (e, sets-eq v w 0 (omega arith), zero-add, l)
+
+  -- n places with one value, as `fill` leaves them
+  pub tabulate-replicate : (x : A) (n : ℕ) → tabulate (λ i. x) n ≡ replicate n x
+  unfolding tabulate
+  tabulate-replicate x zero = refl
+  tabulate-replicate x (suc n) = rw (tabulate-replicate x n, replicate_more n x, add-one)
+
+  -- what `copy_within` of the library leaves
+  pub put_pasted : (n source target : ℕ) (w : List A) → source + n ≤ length w → target + n ≤ length w
+      → paste w target (drop source w) n ≡ put target (part source n w) w
+  unfolding put
+  put_pasted n source target w h k =
+      let size : length (part source n w) ≡ n = length_part source n w h in
+      rw (sets-eq (part source n w) w target (omega arith), size)
+
   -- the elements from index `at`, lent to a call that made them the image of src under f, are that vector written there
   pub image-placed : {B : Type 0} (f : B → A) (at : ℕ) (src : List B) (w x : List A)
       → at + length src ≤ length w
       → x ≡ map f src
       → take at w ++ (x ++ drop (at + length src - at) (drop at w)) ≡ put at (map f src) w
-  unfolding put
   image-placed f at src w x h e =
-      let m : at + length src - at ≡ length src = omega arith in
-      let size : length (map f src) ≡ length src = length-map src f in
-      rw (e, m, drop-drop, sets-eq (map f src) w at (omega arith), size, append_assoc)
+      let size = length-map src f in
+      let room : at + length (map f src) ≤ length w = omega arith in
+      let placed = put_lent at (map f src) w x room e in
+      rw size at placed
 
   -- ---- what lies before or after what is written
 

@@ -5,6 +5,7 @@ use mathlib.Core.Path.{◌≡◌, refl, sym, ap, ◌∙◌}
 use mathlib.Core.Logic.{◌⊎◌, inl, inr, ⊎_elim}
 use mathlib.Core.List.{List}
 use Prim.Native.Nat.{ℕ, ◌+◌, ◌-◌, ◌≤◌, ◌<◌}
+use native.Mathlib.Decide.{dec_le}
 use native.Mathlib.Omega.{arith}
 use lib.ListN.{length, get_or, set, length-set}
 use Rattle.arithmetic.specs.Vector.{tabulate}
@@ -74,6 +75,13 @@ module _ {A : Type 0} where
     -- so is the turn's element of a vector that does not begin before the one that is written
     pub read-after : (a : ℕ) → at ≤ a → i < n → (d : A) → get_or w (a + i) d ≡ get_or (part a n w₀) i d
     read-after a h l d = read-ahead (a + i) (omega arith) d ∙ sym (get_d_part a n w₀ i d l)
+
+    -- and so is that of a vector that does not begin before the one that is written and end within it
+    pub read_first : (a : ℕ) → (a < at → a + n ≤ at) → i < n → (d : A) → get_or w (a + i) d ≡ get_or (part a n w₀) i d
+    read_first a h l d = elim (dec_le at a) [
+      | yes k ↦ read-after a k l d
+      | no k ↦ read-apart a (omega (arith, h (omega arith))) l d
+    ]
 
     pub read_here : i < n → (d : A) → get_or w (at + i) d ≡ get_or (part at n w₀) i d
     read_here l d = read-ahead (at + i) (omega arith) d ∙ sym (get_d_part at n w₀ i d l)

@@ -5,7 +5,8 @@ use Rattle.std.proofs.Math.Decide.{dec_le}
 use Rattle.std.proofs.Common.{arith}
 use Rattle.std.proofs.lemmas.List.Edits.{sets}
 use Rattle.std.specs.Float.{binary64}
-use Rattle.arithmetic.specs.Arithmetic.{ieee, vectors}
+use Rattle.arithmetic.specs.Vector.{tabulate}
+use Rattle.arithmetic.specs.Arithmetic.{ieee, at, vectors}
 
 -- The n places from index a and the n places from index b have none in common (`apart-is`): a and b are n or more from
 -- each other. The differences stop at 0, so that one of the two is the distance and the other 0.
@@ -33,3 +34,11 @@ module _ {A : Type 0} where
 -- n times +0
 abbrev pub zeros : ℕ → List Float
 zeros n = (vectors (ieee binary64) n).zero
+
+-- h of the elements of two vectors of n places, place by place
+abbrev pub combined : (Float → Float → Float) → ℕ → List Float → List Float → List Float
+combined h n x y = tabulate (λ i. h (at (ieee binary64) x i) (at (ieee binary64) y i)) n
+
+-- each call of a closure, of which `post` tells, gives what h gives
+abbrev pub Computes : (Float → Float → Float → Type 0) → (Float → Float → Float) → Type 0
+Computes post h = (a b r : Float) → post a b r → r ≡ h a b

@@ -1,16 +1,14 @@
 // Vectors put into a work slice, taken out of it, copied within it and cleared, for callers that keep the vectors within it, and apart
 // where one is read while another is written.
-ghost use Rattle.std.specs.Prelude.{◌≡◌, ◌+◌, ◌≤◌, length};
-ghost use Rattle.scratch.specs.Parts.{part, put, Apart, zeros};
+ghost use Rattle.std.specs.Prelude.{◌≡◌, ◌+◌, ◌<◌, ◌≤◌, length, Float};
+ghost use Rattle.scratch.specs.Parts.{part, put, Apart, zeros, combined, Computes};
 
 // The first `need` elements become +0 (01, "What a call answers": what is zeroed is the part that the call needed).
 pub fn clear(work: &mut [f64], need: usize)
     requires { need ≤ length work.old }
     ensures { work.new ≡ put 0 (zeros need) work.old }
 {
-    for i in 0..need {
-        work[i] = 0.0;
-    }
+    work[..need].fill(0.0);
 }
 
 // The vector at `at` becomes v.
@@ -18,9 +16,7 @@ pub fn load(work: &mut [f64], at: usize, v: &[f64])
     requires { at + length v.now ≤ length work.old }
     ensures { work.new ≡ put at v.now work.old }
 {
-    for i in 0..v.len() {
-        work[at + i] = v[i];
-    }
+    work[at..at + v.len()].copy_from_slice(v);
 }
 
 // out becomes the vector at `at`, of as many places as out has.
@@ -28,9 +24,7 @@ pub fn store(work: &[f64], at: usize, out: &mut [f64])
     requires { at + length out.old ≤ length work.now }
     ensures { out.new ≡ part at (length out.old) work.now }
 {
-    for i in 0..out.len() {
-        out[i] = work[at + i];
-    }
+    out.copy_from_slice(&work[at..at + out.len()]);
 }
 
 // The vector at `target` becomes the one at `source`.
@@ -39,7 +33,27 @@ pub fn copy_within(work: &mut [f64], n: usize, source: usize, target: usize)
     ensures { let w = work.old in
         work.new ≡ put target (part source n w) w }
 {
+    work.copy_within(source..source + n, target);
+}
+
+// The vector at `target` becomes what f makes, place by place, of those at x and y. None of these begins before the target and ends within
+// it, so that a place is read before it is written; it may be the target itself.
+pub fn combine_within<F: Fn(f64, f64) -> f64>(
+    work: &mut [f64],
+    n: usize,
+    x: usize,
+    y: usize,
+    target: usize,
+    f: F,
+)
+    requires n_in_bounds { (x + n ≤ length work.old) × (y + n ≤ length work.old) × (target + n ≤ length work.old) }
+    requires read_first { (x < target → x + n ≤ target) × (y < target → y + n ≤ target) }
+    requires callable { F.IsAlwaysCallable f }
+    ensures { let w = work.old in
+        (h : Float → Float → Float) → Computes (F.post f) h → work.new ≡ put target (combined h n (part x n w) (part y n w)) w }
+{
+    // By index: the vectors lie in one slice, and a second split of it has no generated proof.
     for i in 0..n {
-        work[target + i] = work[source + i];
+        work[target + i] = f(work[x + i], work[y + i]);
     }
 }

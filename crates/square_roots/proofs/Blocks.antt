@@ -1,15 +1,13 @@
 -- The images of a vector's elements, written block by block: within a work slice, or from one list to another. Assumes nothing.
 use mathlib.Core.Path.{◌≡◌, refl, sym, ap, ◌∙◌}
-use mathlib.Core.Logic.{◌⊎◌, inl, inr}
 use mathlib.Core.List.{List, map, ◌++◌, map-append}
 use Prim.Native.Nat.{ℕ, ◌+◌, ◌-◌, ◌≤◌}
-use native.Mathlib.Decide.{dec_le}
 use native.Mathlib.Omega.{arith}
 use lib.ListN.{length, take, drop, length-map}
 use lib.Seq.{take-add, take_all, drop-drop}
 use lib.Ieee.{Float}
-use Rattle.scratch.specs.Parts.{part, put, Apart}
-use Rattle.scratch.proofs.Parts.{length_part, length-put, part-of-put-outside, put-append, put_whole, image-placed}
+use Rattle.scratch.specs.Parts.{part, put}
+use Rattle.scratch.proofs.Parts.{length_part, length-put, put-append, put_whole, image-placed}
 
 module _ (f : Float → Float) where
   images : (s n : ℕ) (x : List Float) → s + n ≤ length x → length (map f (part s n x)) ≡ n
@@ -61,27 +59,6 @@ module _ (f : Float → Float) where
   imaged-all {x} {w} {n} {source} {target} {done} all l =
       let whole : done ≡ n = omega (arith, all.inside) in
       all.written ∙ ap (λ (k : ℕ). put target (map f (part source k x)) w) whole
-
-  -- within a work slice the block's values are as they were, since no block before it has reached them
-  pub imaged-next : {w : List Float} {n source target done : ℕ} {w' w'' : List Float} → Imaged w w n source target done w'
-      → (end : ℕ)
-      → done ≤ end
-      → end ≤ n
-      → source + n ≤ length w
-      → Apart n source target
-      → w'' ≡ put (target + done) (map f (part (source + done) (end - done) w')) w'
-      → Imaged w w n source target end w''
-  imaged-next {w} {n} {source} {target} {done} {w'} before end l more room apart e =
-      let first = map f (part source done w) in
-      let size = end - done in
-      let outside : (source + done + size ≤ target) ⊎ (target + length first ≤ source + done) =
-      elim (dec_le source target) [
-        | yes l ↦ inl (omega arith)
-        | no l ↦ inr (omega (arith, images source done w (omega arith)))
-      ] in
-      let kept : part (source + done) size w' ≡ part (source + done) size w =
-      ap (part (source + done) size) before.written ∙ part-of-put-outside target first w (source + done) size outside in
-      imaged-block before end l more room (e ∙ ap (λ (v : List Float). put (target + done) (map f v) w') kept)
 
   -- from a list x to another of its length, the block is lent and comes back as z
   module _ {x y : List Float} (same : length y ≡ length x) where

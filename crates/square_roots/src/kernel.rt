@@ -1,25 +1,13 @@
 // The square roots of vectors, block by block, so that an estimate that fails its test costs its own block more time and not the whole vector.
-ghost use Rattle.std.specs.Prelude.{◌≡◌, map, ◌+◌, ◌≤◌, ◌<◌, length};
+ghost use Rattle.std.specs.Prelude.{◌≡◌, map, ◌+◌, ◌≤◌, length};
 ghost use Rattle.std.specs.Float.{binary64};
 ghost use Rattle.scratch.specs.Parts.{part, put, Apart};
 ghost use Rattle.ieee_square_root.specs.SquareRoot.{square_root};
 
-use square_roots_blocks::kernel::{block_in, block_into_slice};
+use square_roots_blocks::kernel::block_into_slice;
 
 // How many roots make up a block: so many that its passes are long, and so few that a third pass over them costs little.
 const BLOCK: usize = 256;
-
-// Where the block ends that begins behind the `done` first of `count` elements.
-fn block_end(done: usize, count: usize) -> usize
-    requires { done < count }
-    ensures { (done < result) × (result ≤ count) }
-{
-    if BLOCK < count - done {
-        done + BLOCK
-    } else {
-        count
-    }
-}
 
 // The square roots of src's elements, to dst.
 pub fn sqrt_into_slice(src: &[f64], dst: &mut [f64])
@@ -29,7 +17,7 @@ pub fn sqrt_into_slice(src: &[f64], dst: &mut [f64])
     let count = src.len();
     let mut done = 0;
     while done < count {
-        let end = block_end(done, count);
+        let end = done + BLOCK.min(count - done);
         block_into_slice(&src[done..end], &mut dst[done..end]);
         done = end;
     }
@@ -41,10 +29,11 @@ pub fn roots_in(work: &mut [f64], count: usize, source: usize, target: usize)
     ensures { let w = work.old in
         work.new ≡ put target (map (square_root binary64) (part source count w)) w }
 {
-    let mut done = 0;
-    while done < count {
-        let end = block_end(done, count);
-        block_in(work, end - done, source + done, target + done);
-        done = end;
+    if source < target {
+        let (front, back) = work.split_at_mut(target);
+        sqrt_into_slice(&front[source..source + count], &mut back[..count]);
+    } else {
+        let (front, back) = work.split_at_mut(source);
+        sqrt_into_slice(&back[..count], &mut front[target..target + count]);
     }
 }

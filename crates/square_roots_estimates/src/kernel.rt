@@ -1,10 +1,7 @@
-// Estimates of the square roots of a vector, promising nothing, and its square roots from any guesses at them: to a slice, or within a work
-// slice.
-ghost use Rattle.std.specs.Prelude.{◌≡◌, map, ◌+◌, ◌≤◌, length};
+// Estimates of the square roots of a vector, promising nothing, and its square roots from any guesses at them.
+ghost use Rattle.std.specs.Prelude.{◌≡◌, map, length};
 ghost use Rattle.std.specs.Float.{binary64};
-ghost use Rattle.scratch.specs.Parts.{part, put, Apart};
 ghost use Rattle.ieee_square_root.specs.SquareRoot.{square_root};
-ghost use Rattle.square_roots_estimates.specs.Overwritten.{Overwritten};
 
 use square_root::kernel::{inverse_root, root_near};
 use square_root_bits::kernel::bits_or_zero;
@@ -31,8 +28,8 @@ pub fn estimate(x: f64) -> f64 {
 pub fn estimate_into_slice(src: &[f64], dst: &mut [f64])
     requires { length dst.old ≡ length src.now }
 {
-    for i in 0..src.len() {
-        dst[i] = estimate(src[i]);
+    for (y, x) in dst.iter_mut().zip(src) {
+        *y = estimate(*x);
     }
 }
 
@@ -41,28 +38,7 @@ pub fn settle_into_slice(src: &[f64], dst: &mut [f64])
     requires { length dst.old ≡ length src.now }
     ensures { dst.new ≡ map (square_root binary64) src.now }
 {
-    for i in 0..src.len() {
-        dst[i] = root_near(src[i], dst[i]);
-    }
-}
-
-// The vector at `target` becomes estimates of the square roots of the one at `source`. Nothing is promised of them.
-pub fn estimate_within(work: &mut [f64], count: usize, source: usize, target: usize)
-    requires { (source + count ≤ length work.old) × (target + count ≤ length work.old) }
-    ensures { Overwritten count target work.old work.new }
-{
-    for i in 0..count {
-        work[target + i] = estimate(work[source + i]);
-    }
-}
-
-// The vector at `target` becomes the square roots of the one at `source`, from any guesses at them at `target`.
-pub fn settle_within(work: &mut [f64], count: usize, source: usize, target: usize)
-    requires { (source + count ≤ length work.old) × (target + count ≤ length work.old) × Apart count source target }
-    ensures { let w = work.old in
-        work.new ≡ put target (map (square_root binary64) (part source count w)) w }
-{
-    for i in 0..count {
-        work[target + i] = root_near(work[source + i], work[target + i]);
+    for (i, y) in dst.iter_mut().enumerate() {
+        *y = root_near(src[i], *y);
     }
 }

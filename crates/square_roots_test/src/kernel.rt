@@ -11,9 +11,9 @@ pub fn all_roots(src: &[f64], roots: &[f64]) -> bool
     requires { length roots.now ≡ length src.now }
     ensures { result ≡ true → roots.now ≡ map (square_root binary64) src.now }
 {
-    let mut passed = SIGN;
-    for i in 0..src.len() {
-        passed = passed & root_test(src[i], roots[i]);
-    }
+    let passed = src
+        .iter()
+        .zip(roots.iter())
+        .fold(SIGN, |passed, (x, y)| passed & root_test(*x, *y));
     passed >= SIGN
 }

@@ -3,10 +3,12 @@
 #![tactic(auto)]
 
 ghost use Rattle.magnus_graph_outcome.specs.StepOutcome.{forward, adjoint};
-ghost use Rattle.magnus_graph_faults.specs.StepChecks.{sample};
+ghost use Rattle.magnus_graph_faults.specs.StepChecks.{sample_of};
 ghost use Rattle.varcoef_magnus_graph_outcome.specs.StepOutcome.{step_input, Stepped};
 
 use error::Refusal;
+use graph_checks::CsrParts;
+use magnus_graph_checks::binary64_values;
 use varcoef_magnus_graph_step::kernel::step4_la;
 use varcoef_magnus_graph_step_checks::check_weighted_step;
 
@@ -17,14 +19,8 @@ pub const SQRT3_OVER_12_F64: f64 = 0.144_337_567_297_406_45;
 // second n, src, dst, the weights and work, whose need is 9n, and 11; a refusal leaves every slice as it was. Accepted, the first 9n elements
 // of work become +0.
 pub fn apply_exp_omega4_la_kernel(
-    n1: usize,
-    row_ptr1: &[usize],
-    col_idx1: &[u32],
-    vals1: &[f64],
-    n2: usize,
-    row_ptr2: &[usize],
-    col_idx2: &[u32],
-    vals2: &[f64],
+    first: CsrParts<'_>,
+    second: CsrParts<'_>,
     tau: f64,
     rho_bar_max: f64,
     a_sup_max: f64,
@@ -36,22 +32,16 @@ pub fn apply_exp_omega4_la_kernel(
     work: &mut [f64],
 ) -> Result<(), Refusal>
     ensures { Stepped forward (step_input
-        (sample n1 row_ptr1.now col_idx1.now vals1.now)
-        (sample n2 row_ptr2.now col_idx2.now vals2.now)
+        (sample_of first.entry)
+        (sample_of second.entry)
         tau rho_bar_max a_sup_max convergence_radius_check a1.now a2.now
         src.now dst.old work.old)
         result dst.new work.new }
 {
     step(
         1.0,
-        n1,
-        row_ptr1,
-        col_idx1,
-        vals1,
-        n2,
-        row_ptr2,
-        col_idx2,
-        vals2,
+        first,
+        second,
         tau,
         rho_bar_max,
         a_sup_max,
@@ -66,14 +56,8 @@ pub fn apply_exp_omega4_la_kernel(
 
 // The adjoint step: the same with the commutator's sign reversed.
 pub fn apply_exp_omega4_la_adj_kernel(
-    n1: usize,
-    row_ptr1: &[usize],
-    col_idx1: &[u32],
-    vals1: &[f64],
-    n2: usize,
-    row_ptr2: &[usize],
-    col_idx2: &[u32],
-    vals2: &[f64],
+    first: CsrParts<'_>,
+    second: CsrParts<'_>,
     tau: f64,
     rho_bar_max: f64,
     a_sup_max: f64,
@@ -85,22 +69,16 @@ pub fn apply_exp_omega4_la_adj_kernel(
     work: &mut [f64],
 ) -> Result<(), Refusal>
     ensures { Stepped adjoint (step_input
-        (sample n1 row_ptr1.now col_idx1.now vals1.now)
-        (sample n2 row_ptr2.now col_idx2.now vals2.now)
+        (sample_of first.entry)
+        (sample_of second.entry)
         tau rho_bar_max a_sup_max convergence_radius_check a1.now a2.now
         src.now dst.old work.old)
         result dst.new work.new }
 {
     step(
         -1.0,
-        n1,
-        row_ptr1,
-        col_idx1,
-        vals1,
-        n2,
-        row_ptr2,
-        col_idx2,
-        vals2,
+        first,
+        second,
         tau,
         rho_bar_max,
         a_sup_max,
@@ -116,14 +94,8 @@ pub fn apply_exp_omega4_la_adj_kernel(
 // The step with the commutator's sign.
 fn step(
     sign: f64,
-    n1: usize,
-    row_ptr1: &[usize],
-    col_idx1: &[u32],
-    vals1: &[f64],
-    n2: usize,
-    row_ptr2: &[usize],
-    col_idx2: &[u32],
-    vals2: &[f64],
+    first: CsrParts<'_>,
+    second: CsrParts<'_>,
     tau: f64,
     rho_bar_max: f64,
     a_sup_max: f64,
@@ -135,21 +107,15 @@ fn step(
     work: &mut [f64],
 ) -> Result<(), Refusal>
     ensures { Stepped sign (step_input
-        (sample n1 row_ptr1.now col_idx1.now vals1.now)
-        (sample n2 row_ptr2.now col_idx2.now vals2.now)
+        (sample_of first.entry)
+        (sample_of second.entry)
         tau rho_bar_max a_sup_max convergence_radius_check a1.now a2.now
         src.now dst.old work.old)
         result dst.new work.new }
 {
     let checked = check_weighted_step(
-        n1,
-        row_ptr1,
-        col_idx1,
-        vals1,
-        n2,
-        row_ptr2,
-        col_idx2,
-        vals2,
+        first,
+        second,
         tau,
         rho_bar_max,
         a_sup_max,
@@ -163,13 +129,15 @@ fn step(
     let Ok(()) = checked else {
         return checked;
     };
+    binary64_values(first.vals);
+    binary64_values(second.vals);
     step4_la(
-        row_ptr1,
-        col_idx1,
-        vals1,
-        row_ptr2,
-        col_idx2,
-        vals2,
+        first.row_ptr,
+        first.col_idx,
+        first.vals,
+        second.row_ptr,
+        second.col_idx,
+        second.vals,
         a1,
         a2,
         tau,

@@ -1,11 +1,13 @@
 // The weighted adjoint run along a trajectory (magnus_graph_adjoint.rs; 01, parts 7, 8 and 10).
 #![tactic(auto)]
 
-ghost use Rattle.graph_traj_parts.specs.Trajectory.{trajectory};
+ghost use Rattle.graph_traj_parts.specs.Trajectory.{trajectory_of};
 ghost use Rattle.magnus_graph_traj_outcome.specs.RunOutcome.{Ran};
 ghost use Rattle.varcoef_magnus_graph_adjoint.specs.WeightedRunOutcome.{weighted_adjoint_run};
 
 use error::Refusal;
+use graph_traj_parts::Trajectory;
+use magnus_graph_checks::binary64_values;
 use magnus_graph_traj_finish::kernel::finish_run;
 use scratch::kernel::{load, store};
 use varcoef_magnus_graph_adjoint_checks::check_weighted_adjoint_run;
@@ -16,14 +18,7 @@ use varcoef_magnus_graph_adjoint_run::kernel::run_steps;
 // 16, 7, 8 and 10: every slice is as it was. Refused by row 20 or 11 in a step, dst is as it was. Once there was a step, the first
 // 11n + 2m elements of work become +0. No steps copy src, and leave work as it was.
 pub fn evolve_state_adjoint_into<'a>(
-    n: usize,
-    row_ptr: &[usize],
-    col_idx: &[u32],
-    segments: usize,
-    breakpoints: &[f64],
-    starts: &'a [f64],
-    ends: &'a [f64],
-    laws: &[u8],
+    trajectory: Trajectory<'_>,
     tau: f64,
     steps: usize,
     rho_bar_max: f64,
@@ -35,21 +30,13 @@ pub fn evolve_state_adjoint_into<'a>(
     dst: &mut [f64],
     work: &mut [f64],
 ) -> Result<(), Refusal>
-    ensures { Ran (weighted_adjoint_run (trajectory n row_ptr.now col_idx.now segments
-        breakpoints.now starts.now ends.now laws.now)
+    ensures { Ran (weighted_adjoint_run (trajectory_of trajectory.entry)
         tau steps rho_bar_max a_sup_max convergence_radius_check a_starts.now a_ends.now
         src.now dst.old work.old)
         result dst.new work.new }
 {
     let checked = check_weighted_adjoint_run(
-        n,
-        row_ptr,
-        col_idx,
-        segments,
-        breakpoints,
-        starts,
-        ends,
-        laws,
+        trajectory,
         tau,
         steps,
         rho_bar_max,
@@ -64,26 +51,14 @@ pub fn evolve_state_adjoint_into<'a>(
     let Ok(()) = checked else {
         return checked;
     };
+    binary64_values(trajectory.starts);
+    binary64_values(trajectory.ends);
     if steps == 0 {
         store(src, 0, dst);
         return Ok(());
     }
-    let need = 11 * n + 2 * col_idx.len();
+    let need = 11 * trajectory.n + 2 * trajectory.col_idx.len();
     load(work, 0, src);
-    let taken = run_steps(
-        n,
-        row_ptr,
-        col_idx,
-        segments,
-        breakpoints,
-        starts,
-        ends,
-        laws,
-        tau,
-        steps,
-        a_starts,
-        a_ends,
-        work,
-    );
+    let taken = run_steps(trajectory, tau, steps, a_starts, a_ends, work);
     finish_run(taken, work, need, dst)
 }

@@ -3,14 +3,14 @@
 #![tactic(auto)]
 
 ghost use Rattle.std.specs.Prelude.{◌≡◌};
-ghost use Rattle.graph_traj_parts.specs.Trajectory.{trajectory};
+ghost use Rattle.graph_traj_parts.specs.Trajectory.{trajectory_of};
 ghost use Rattle.graph_traj_adjoint_faults.specs.AdjointRunChecks.{weighted_run_lengths_fault};
 ghost use Rattle.graph_traj_adjoint_faults.specs.AdjointRunChecks.{weighted_adjoint_run_fault};
 
 use error::Refusal;
 use graph_traj_adjoint_checks::check_adjoint_steps;
 use graph_traj_checks::check::check_signals;
-use graph_traj_parts::check_adjoint_trajectory;
+use graph_traj_parts::{Trajectory, check_adjoint_trajectory};
 use magnus_graph_checks::check_room;
 use varcoef_magnus_graph_checks::{check_weighted_bounds, check_weights_length};
 
@@ -33,14 +33,7 @@ pub fn check_weighted_run_lengths(
 
 // All checks of a weighted adjoint run. a_sup_max is the root bound; a_starts and a_ends are the lengths of the weights' two lists.
 pub fn check_weighted_adjoint_run(
-    n: usize,
-    row_ptr: &[usize],
-    col_idx: &[u32],
-    segments: usize,
-    breakpoints: &[f64],
-    starts: &[f64],
-    ends: &[f64],
-    laws: &[u8],
+    trajectory: Trajectory<'_>,
     tau: f64,
     steps: usize,
     rho_bar_max: f64,
@@ -52,30 +45,16 @@ pub fn check_weighted_adjoint_run(
     a_ends: usize,
     work: usize,
 ) -> Result<(), Refusal>
-    ensures { result ≡ weighted_adjoint_run_fault (trajectory n row_ptr.now col_idx.now segments
-        breakpoints.now starts.now ends.now laws.now)
+    ensures { result ≡ weighted_adjoint_run_fault (trajectory_of trajectory.entry)
         tau steps rho_bar_max a_sup_max radius_check signal output a_starts a_ends work }
 {
-    check_adjoint_trajectory(
-        n,
-        row_ptr,
-        col_idx,
-        segments,
-        breakpoints,
-        starts,
-        ends,
-        laws,
-    )?;
-    check_weighted_bounds(rho_bar_max, a_sup_max, n)?;
+    check_adjoint_trajectory(trajectory)?;
+    check_weighted_bounds(rho_bar_max, a_sup_max, trajectory.n)?;
     if steps == 0 {
-        return check_signals(n, signal, output);
+        return check_signals(trajectory.n, signal, output);
     }
-    check_adjoint_steps(
-        steps,
-        tau,
-        rho_bar_max * a_sup_max * a_sup_max,
-        radius_check,
-    )?;
-    let need = 11 * n + 2 * col_idx.len();
-    check_weighted_run_lengths(n, signal, output, a_starts, a_ends, work, need)
+    let bound = rho_bar_max * a_sup_max * a_sup_max;
+    check_adjoint_steps(steps, tau, bound, radius_check)?;
+    let need = 11 * trajectory.n + 2 * trajectory.col_idx.len();
+    check_weighted_run_lengths(trajectory.n, signal, output, a_starts, a_ends, work, need)
 }

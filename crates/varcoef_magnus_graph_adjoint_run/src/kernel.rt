@@ -7,7 +7,7 @@ ghost use Rattle.varcoef_magnus_graph_faults.specs.WeightedStepChecks.{weight_fa
 ghost use Rattle.graph_traj_segment.specs.Times.{fraction};
 ghost use Rattle.graph_traj_laws.specs.Laws.{law_values};
 ghost use Rattle.graph_traj_segment.specs.Times.{c1, c2, adjoint_step_start, sample_time};
-ghost use Rattle.graph_traj_parts.specs.Trajectory.{trajectory, AcceptedAdjointTrajectory};
+ghost use Rattle.graph_traj_parts.specs.Trajectory.{trajectory_of, AcceptedAdjointTrajectory};
 ghost use Rattle.magnus_graph_traj_steps.specs.RunSteps.{segment_steps, adjoint_course};
 ghost use Rattle.varcoef_magnus_graph_traj_step.specs.StepTaken.{StepTaken, step_image};
 ghost use Rattle.magnus_graph_traj_steps.specs.StepsTaken.{StepsTaken};
@@ -16,6 +16,7 @@ ghost use Rattle.varcoef_magnus_graph_traj_steps.specs.WeightedRunSteps.{weighte
 
 use error::Refusal;
 use graph_traj_laws::kernel::law_list;
+use graph_traj_parts::Trajectory;
 use graph_traj_segment::kernel::Segment;
 use varcoef_magnus_graph::SQRT3_OVER_12_F64;
 use varcoef_magnus_graph_checks::check_sample_weights;
@@ -98,12 +99,9 @@ fn sampled_steps(
 {
     let mut segment = first;
     for _ in 0..steps {
-        let taken = sampled_step_at(
+        sampled_step_at(
             row_ptr, col_idx, starts, ends, a_starts, a_ends, n, segment, steps, work,
-        );
-        let Ok(()) = taken else {
-            return taken;
-        };
+        )?;
         segment = segment.next();
     }
     Ok(())
@@ -128,10 +126,7 @@ fn constant_steps(
         StepsTaken (λ s. weight_fault w w) (λ s. step_image n row_ptr.now col_idx.now tau x x w w)
         n (11 * n + 2 * length col_idx.now) (segment_steps 0 steps) result work.old work.new }
 {
-    let positive = check_sample_weights(a);
-    let Ok(()) = positive else {
-        return positive;
-    };
+    check_sample_weights(a)?;
     load_roots(a, work, 6 * n);
     for _ in 0..steps {
         constant_taylor4(
@@ -150,32 +145,33 @@ fn constant_steps(
 
 // All steps of the run, by the law of its segment.
 pub fn run_steps<'a>(
-    n: usize,
-    row_ptr: &[usize],
-    col_idx: &[u32],
-    segments: usize,
-    breakpoints: &[f64],
-    starts: &'a [f64],
-    ends: &'a [f64],
-    laws: &[u8],
+    trajectory: Trajectory<'_>,
     tau: f64,
     steps: usize,
     a_starts: &'a [f64],
     a_ends: &'a [f64],
     work: &mut [f64],
 ) -> Result<(), Refusal>
-    requires accepted_adjoint_trajectory { AcceptedAdjointTrajectory (trajectory n row_ptr.now col_idx.now segments breakpoints.now
-        starts.now ends.now laws.now) }
-    requires a_starts_len { (length a_starts.now ≡ n) × (length a_ends.now ≡ n) }
-    requires steps_nonzero { (0 < steps) × (steps ≤ 65535) × (11 * n + 2 * length col_idx.now ≤ length work.old) }
-    ensures { let t = trajectory n row_ptr.now col_idx.now segments
-        breakpoints.now starts.now ends.now laws.now in
+    requires accepted { AcceptedAdjointTrajectory (trajectory_of trajectory) }
+    requires a_starts_len { (length a_starts.now ≡ trajectory.n) × (length a_ends.now ≡ trajectory.n) }
+    requires steps_nonzero { (0 < steps) × (steps ≤ 65535)
+        × (11 * trajectory.n + 2 * length trajectory.col_idx.now ≤ length work.old) }
+    ensures { let t = trajectory_of trajectory.entry in
         let course = adjoint_course tau steps in
         StepsTaken (weighted_run_step_fault t a_starts.now a_ends.now course)
         (weighted_run_step_image t a_starts.now a_ends.now course adjoint)
-        n (11 * n + 2 * length col_idx.now) course.steps result work.old work.new }
+        t.nodes (11 * t.nodes + 2 * length t.cols) course.steps result work.old work.new }
 {
-    let law = laws[0];
+    let Trajectory {
+        n,
+        row_ptr,
+        col_idx,
+        breakpoints,
+        starts,
+        ends,
+        ..
+    } = trajectory;
+    let law = trajectory.laws[0];
     if law == 2 {
         let first = Segment::with_tau(breakpoints[0], breakpoints[1], tau);
         return sampled_steps(

@@ -2,11 +2,10 @@
 // weights' lengths and bounds. Every function answers what its definition in varcoef_magnus_graph_faults' specs/WeightedStepChecks.antt says, for all inputs.
 #![tactic(auto)]
 
-ghost use Rattle.std.specs.Prelude.{◌≡◌, not, length};
+ghost use Rattle.std.specs.Prelude.{◌≡◌, not};
 ghost use Rattle.float.specs.All.{all};
-ghost use Rattle.graph_checks.specs.First.{first};
 ghost use Rattle.magnus_graph_faults.specs.StepChecks.{not_positive};
-ghost use Rattle.varcoef_magnus_graph_faults.specs.WeightedStepChecks.{no_nodes_fault, weights_length_fault, not_positive_at};
+ghost use Rattle.varcoef_magnus_graph_faults.specs.WeightedStepChecks.{no_nodes_fault, weights_length_fault};
 ghost use Rattle.varcoef_magnus_graph_faults.specs.WeightedStepChecks.{sample_weights_fault, weighted_bounds_fault};
 ghost use Rattle.varcoef_magnus_graph_faults.specs.WeightedStepChecks.{weight_fault};
 
@@ -29,12 +28,9 @@ pub fn check_weights_length(n: usize, first: usize, second: usize) -> Result<(),
     ensures { result ≡ weights_length_fault n first second }
 {
     if (first == n) & (second == n) {
-        return Ok(());
-    }
-    if first < second {
-        Err(Refusal::Length(second))
+        Ok(())
     } else {
-        Err(Refusal::Length(first))
+        Err(Refusal::Length(first.max(second)))
     }
 }
 
@@ -43,24 +39,10 @@ pub fn all_positive(weights: &[f64]) -> bool
     ensures { result ≡ all (λ w. not (not_positive w)) weights.now }
 {
     let mut passed = true;
-    for k in 0..weights.len() {
-        passed = passed & is_positive(weights[k]);
+    for w in weights {
+        passed = passed & is_positive(*w);
     }
     passed
-}
-
-// The place of the first weight that is not, or the number of weights.
-fn first_not_positive(weights: &[f64]) -> usize
-    ensures { result ≡ first (not_positive_at weights.now) (length weights.now) }
-{
-    let mut k = 0;
-    while k < weights.len() {
-        if !is_positive(weights[k]) {
-            return k;
-        }
-        k += 1;
-    }
-    k
 }
 
 // Row 11, of one sample's weights: every one is finite and above 0. Accepted weights cost one walk that only finds out
@@ -71,8 +53,12 @@ pub fn check_sample_weights(weights: &[f64]) -> Result<(), Refusal>
     if all_positive(weights) {
         return Ok(());
     }
-    let k = first_not_positive(weights);
-    Err(Refusal::Weight(weights[k]))
+    for w in weights {
+        if !is_positive(*w) {
+            return Err(Refusal::Weight(*w));
+        }
+    }
+    Ok(())
 }
 
 // Row 9 for the spectral bound and the root bound, then row 12.

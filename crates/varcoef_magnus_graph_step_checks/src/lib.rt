@@ -3,10 +3,11 @@
 #![tactic(auto)]
 
 ghost use Rattle.std.specs.Prelude.{◌≡◌};
-ghost use Rattle.magnus_graph_faults.specs.StepChecks.{sample};
+ghost use Rattle.magnus_graph_faults.specs.StepChecks.{sample_of};
 ghost use Rattle.varcoef_magnus_graph_faults.specs.WeightedStepChecks.{weighted_step_fault};
 
 use error::Refusal;
+use graph_checks::CsrParts;
 use magnus_graph_checks::{check_lengths, check_room, check_step_length};
 use magnus_graph_step_checks::check_samples;
 use varcoef_magnus_graph_checks::{check_weighted_bounds, check_weights, check_weights_length};
@@ -14,14 +15,8 @@ use varcoef_magnus_graph_checks::{check_weighted_bounds, check_weights, check_we
 // All checks of a weighted step. rho_bar_max is the spectral bound and a_sup_max the root bound, a1 and a2 are the samples'
 // weights; signal, output and work are lengths.
 pub fn check_weighted_step(
-    n1: usize,
-    row_ptr1: &[usize],
-    col_idx1: &[u32],
-    vals1: &[f64],
-    n2: usize,
-    row_ptr2: &[usize],
-    col_idx2: &[u32],
-    vals2: &[f64],
+    first: CsrParts<'_>,
+    second: CsrParts<'_>,
     tau: f64,
     rho_bar_max: f64,
     a_sup_max: f64,
@@ -33,15 +28,15 @@ pub fn check_weighted_step(
     work: usize,
 ) -> Result<(), Refusal>
     ensures { result ≡ weighted_step_fault
-        (sample n1 row_ptr1.now col_idx1.now vals1.now)
-        (sample n2 row_ptr2.now col_idx2.now vals2.now)
+        (sample_of first.entry)
+        (sample_of second.entry)
         tau rho_bar_max a_sup_max radius_check signal output a1.now a2.now work }
 {
-    check_samples(n1, row_ptr1, col_idx1, vals1, n2, row_ptr2, col_idx2, vals2)?;
-    check_weighted_bounds(rho_bar_max, a_sup_max, n1)?;
+    check_samples(first, second)?;
+    check_weighted_bounds(rho_bar_max, a_sup_max, first.n)?;
     check_step_length(tau, rho_bar_max * a_sup_max * a_sup_max, radius_check)?;
-    check_lengths(n1, n2, signal, output)?;
-    check_weights_length(n1, a1.len(), a2.len())?;
-    check_room(work, 9 * n1)?;
+    check_lengths(first.n, second.n, signal, output)?;
+    check_weights_length(first.n, a1.len(), a2.len())?;
+    check_room(work, 9 * first.n)?;
     check_weights(a1, a2)
 }

@@ -1,6 +1,6 @@
 -- A term of Ω of order 4 meets the contract of the trait: the four products are placed as the formula asks, d over v, which is no longer needed; then
 -- Ωv is formed of them over d, and the coefficient times Ωv is added to the sum. Assumes nothing.
-use Rattle.std.proofs.Common.{◌≡◌, ℕ, ◌*◌, List, Float, arith, ap₂, ◌∙◌}
+use Rattle.std.proofs.Common.{◌≡◌, ℕ, ◌*◌, List, Float, arith, ◌∙◌}
 use Rattle.std.specs.Float.{binary64}
 use Rattle.rounding.specs.StepLength.{minus_half}
 use Rattle.arithmetic.specs.Arithmetic.{ieee}
@@ -11,11 +11,6 @@ use Rattle.graph_scratch.proofs.WorkSlice.{image-of}
 use Rattle.magnus_graph_helpers.specs.Terms.{omega4_sum}
 use Rattle.magnus_graph_helpers.proofs.Terms.{product-placed, room-left, term4-added}
 use Rattle.magnus_graph_term.proofs.kernel.Omega4Omega.add_term.Goals as goal
-
--- the work slice once Ωv, formed with these factors, is written over d
-abbrev summed : ℕ → Float → Float → List Float → List Float
-summed n scale comm w =
-    put n (omega4_sum (ieee binary64) n scale comm (part (2 * n) n w) (part (3 * n) n w) (part (4 * n) n w) (part n n w)) w
 
 pub returns : goal.returns
 returns c =
@@ -35,6 +30,5 @@ returns c =
     let d = placed (3 * n) n L1 _ _ (λ x. length-tabulate _ n) room2 (omega arith) c.product_in-3.ensures in
     let room3 = room-left A n d (5 * n) room2 in
     let e = placed (2 * n) (4 * n) L2 _ _ (λ x. length-tabulate _ _ ∙ same) room3 (omega arith) (image-of (2 * n) (4 * n) c.product_in-3.new.work L2 same c.product_in-4.ensures) in
-    let sum = c.omega_sum.ensures ∙ ap₂ (λ x y. summed n x y c.product_in-4.new.work) c.scale.ensures c.comm_scale.ensures in
     term4-added A n (5 * n) minus_half f.s f.sign f.tau args.coefficient L1 L2
-    args.work.now _ _ _ _ _ _ room (omega arith) a b d e sum c.add_scaled.ensures
+    args.work.now _ _ _ _ _ _ room (omega arith) a b d e c.omega_sum.ensures c.add_scaled.ensures

@@ -1,0 +1,22 @@
+-- `graph_two_products::kernel::two_products_in` meets its contract: where the patterns are the same, the second sample's values belong to the first
+-- one's pattern; else one product is written after the other, apart from the source. That the patterns are the same is asked by value, so that
+-- another test fails at what has to be shown. Assumes nothing.
+use Rattle.std.proofs.Common.{sym}
+use Rattle.arithmetic.proofs.Tabulate.{length-tabulate}
+use Rattle.graph_rows.specs.Product.{product_of}
+use Rattle.graph_scratch.proofs.WorkSlice.{image-of}
+use Rattle.graph_two_products.proofs.Turns.{by-its-own-pattern, one-after-the-other}
+use Rattle.graph_two_products.proofs.kernel.two_products_in.Goals as goal
+
+pub returns-then-shared : goal.returns-then-shared
+returns-then-shared c =
+    let r = c.requires in
+    by-its-own-pattern c.args.target_second _ _ _ (sym r.same_nodes) (r.shared_pattern.same c.if-shared.true) c.shared_products_in.ensures
+
+pub returns-else-shared : goal.returns-else-shared
+returns-else-shared c =
+    let a = c.args in
+    let r = c.requires in
+    let second = image-of a.source a.target_second c.product_in.new.work (product_of a.second) r.same_nodes c.product_in-else-shared.ensures in
+    one-after-the-other a.first.pattern.n a.source a.target_first a.target_second (product_of a.second) _ a.work.now
+    (length-tabulate _ _) r.apart_first c.product_in.ensures second

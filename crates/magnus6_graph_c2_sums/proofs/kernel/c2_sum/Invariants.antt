@@ -1,0 +1,18 @@
+-- The invariant of `magnus6_graph_c2_sums::kernel::c2_sum`: the places of C2 x before place i are written, and nothing else.
+use Rattle.std.specs.Prelude.{◌*◌}
+use Rattle.std.specs.Float.{binary64}
+use Rattle.arithmetic.specs.Arithmetic.{ieee}
+use Rattle.scratch.specs.Parts.{part}
+use Rattle.scratch.proofs.Writing.{Written}
+use Rattle.magnus.specs.Omega6.{constants6}
+use Rattle.magnus6_graph_parts.proofs.Omega6Walks.{c2_sum_at}
+use Rattle.magnus6_graph_c2_sums.proofs.kernel.c2_sum.Given as goal
+
+abbrev pub invariant-loop-i : goal.invariant-loop-i
+invariant-loop-i l =
+    let n = l.n in
+    let w = l.fn.work in
+    Written (20 * n)
+    (c2_sum_at (ieee binary64) constants6 l.tau (part (15 * n) n w) (part (7 * n) n w) (part (16 * n) n w) (part (8 * n) n w) (part (17 * n) n w)
+    (part (18 * n) n w) (part (19 * n) n w))
+    n w l.i l.work

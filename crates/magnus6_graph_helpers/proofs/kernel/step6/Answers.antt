@@ -1,0 +1,16 @@
+-- `magnus6_graph_helpers::kernel::step6` meets its contract: the signal is loaded into the work slice, the six terms are added to
+-- it, the sum is stored to dst, and the first 22n elements, beyond which nothing was written, are cleared. One walk serves the first and the
+-- third sample only where their patterns were found to be the same. Assumes nothing.
+use Rattle.std.proofs.Common.{◌*◌, arith}
+use Rattle.std.specs.Float.{binary64}
+use Rattle.arithmetic.specs.Arithmetic.{ieee}
+use Rattle.arithmetic.proofs.Tabulate.{length-tabulate}
+use Rattle.magnus_graph_helpers.proofs.Terms.{signal-loaded, step-done}
+use Rattle.magnus6_graph_helpers.proofs.kernel.step6.Goals as goal
+
+pub returns : goal.returns
+returns c =
+    let n = c.args.first.pattern.n in
+    let signal = signal-loaded (ieee binary64) n (22 * n) c.args.src.now c.args.work.now _ c.requires.src_len (omega arith) c.requires.room in
+    step-done (ieee binary64) n (22 * n) (22 * n) _ _ 6 _ _ _ _ c.requires.dst_len c.requires.room (omega arith)
+    (signal c.load.ensures) c.taylor_sum.ensures c.store.ensures (length-tabulate _ _) c.clear.ensures
