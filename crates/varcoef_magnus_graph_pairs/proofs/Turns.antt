@@ -54,9 +54,6 @@ module _ (n : ℕ) (row_starts cols : List ℕ) (values roots source target scal
   pub record Walked (i : ℕ) (w : List Float) : Type 0 where
     pub over : WrittenOver scaled (alternate next1 next2) (2 * n) (Written target (alternate a b) (2 * n) w₀ (2 * i)) (2 * i) w
 
-  pub length-walked : {i : ℕ} {w : List Float} → Walked i w → length w ≡ length w₀
-  length-walked walked = walked.over.here.length-kept ∙ walked.over.rest.length-kept
-
   pub walked_none : Walked 0 w₀
   walked_none =
       record { over = over_none scaled (alternate next1 next2) (2 * n) w₀ (written_none target (alternate a b) (2 * n) w₀) }

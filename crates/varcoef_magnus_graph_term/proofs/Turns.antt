@@ -50,9 +50,6 @@ module _ (n : ℕ) (row_starts cols : List ℕ) (values roots source pairs scale
   pub record Walked (i : ℕ) (w : List Float) : Type 0 where
     pub over : WrittenOver scaled (alternate next1 next2) (2 * n) (Written 0 total n w₀ i) (2 * i) w
 
-  pub length-walked : {i : ℕ} {w : List Float} → Walked i w → length w ≡ length w₀
-  length-walked walked = walked.over.here.length-kept ∙ walked.over.rest.length-kept
-
   pub walked_none : Walked 0 w₀
   walked_none = record { over = over_none scaled (alternate next1 next2) (2 * n) w₀ (written_none 0 total n w₀) }
 
