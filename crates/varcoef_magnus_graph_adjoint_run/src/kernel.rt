@@ -1,7 +1,14 @@
 // The steps of a weighted adjoint run, one after the other (01, parts 7, 8 and 10), for callers that have checked their arguments. The
 // held signal is the vector at 0 of the work slice.
 ghost use Rattle.std.specs.Prelude.{◌≡◌, ◌+◌, ◌*◌, ◌≤◌, ◌<◌, length};
-ghost use Rattle.graph_checks.specs.Pattern.{Pattern, ValuedPattern};
+ghost use Rattle.std.specs.Float.{binary64};
+ghost use Rattle.rounding.specs.StepLength.{minus_half};
+ghost use Rattle.arithmetic.specs.Arithmetic.{ieee};
+ghost use Rattle.scratch.specs.Parts.{part};
+ghost use Rattle.graph_rows.specs.Product.{product_of};
+ghost use Rattle.magnus.specs.Coefficients.{reciprocal_factorial};
+ghost use Rattle.magnus_graph_helpers.specs.Terms.{TermsAdded};
+ghost use Rattle.varcoef_magnus_graph_taylor_term.specs.WeightedOmega4.{weighted_omega4};
 ghost use Rattle.magnus_graph_outcome.specs.StepOutcome.{adjoint};
 ghost use Rattle.varcoef_magnus_graph_faults.specs.WeightedStepChecks.{weight_fault};
 ghost use Rattle.graph_traj_segment.specs.Times.{fraction};
@@ -15,130 +22,103 @@ ghost use Rattle.varcoef_magnus_graph_traj_steps.specs.SampledSteps.{sampled_ste
 ghost use Rattle.varcoef_magnus_graph_traj_steps.specs.WeightedRunSteps.{weighted_run_step_fault, weighted_run_step_image};
 
 use error::Refusal;
+use graph_rows::kernel::{Pattern, Sample};
 use graph_traj_laws::kernel::law_list;
 use graph_traj_parts::Trajectory;
 use graph_traj_segment::kernel::Segment;
+use magnus_graph_helpers::factors::Factors;
+use magnus_graph_taylor::kernel::taylor_sum;
 use varcoef_magnus_graph::SQRT3_OVER_12_F64;
 use varcoef_magnus_graph_checks::check_sample_weights;
-use varcoef_magnus_graph_products::kernel::load_roots;
-use varcoef_magnus_graph_traj_constant::kernel::constant_taylor4;
-use varcoef_magnus_graph_traj_step::kernel::sampled_step;
+use varcoef_magnus_graph_products::kernel::{WeightedSample, load_roots};
+use varcoef_magnus_graph_traj_constant::kernel::ConstantWeightedOmega4;
+use varcoef_magnus_graph_traj_step::kernel::{SegmentLists, sampled_step};
 
 // The step that comes next in a segment of law 2, in an adjoint run of so many steps.
-fn sampled_step_at(
-    row_ptr: &[usize],
-    col_idx: &[u32],
-    starts: &[f64],
-    ends: &[f64],
-    a_starts: &[f64],
-    a_ends: &[f64],
-    n: usize,
-    segment: Segment,
-    steps: usize,
-    work: &mut [f64],
-) -> Result<(), Refusal>
-    requires pattern { Pattern n row_ptr.now col_idx.now }
-    requires starts_len { (length starts.now ≡ length col_idx.now) × (length ends.now ≡ length col_idx.now) }
-    requires a_starts_len { (length a_starts.now ≡ n) × (length a_ends.now ≡ n) }
-    requires col_idx_in_bounds { 11 * n + 2 * length col_idx.now ≤ length work.old }
+fn sampled_step_at(lists: SegmentLists<'_>, segment: Segment, steps: usize, work: &mut [f64]) -> Result<(), Refusal>
+    requires room { 11 * lists.pattern.n + 2 * length lists.pattern.col_idx.now ≤ length work.old }
     requires step_lt_steps { (segment.step < steps) × (steps ≤ 65535) }
-    ensures { let m = length starts.now in
-        let k = length a_starts.now in
+    ensures { let l = lists.entry in
+        let m = length l.starts.now in
+        let k = length l.a_starts.now in
         let start = adjoint_step_start segment.tau steps segment.step in
         let f1 = fraction (sample_time start c1 segment.tau) segment.start segment.end in
         let f2 = fraction (sample_time start c2 segment.tau) segment.start segment.end in
-        StepTaken n row_ptr.now col_idx.now segment.tau
-        (law_values m f1 starts.now ends.now)
-        (law_values m f2 starts.now ends.now)
-        (law_values k f1 a_starts.now a_ends.now)
-        (law_values k f2 a_starts.now a_ends.now)
+        StepTaken l.pattern.n l.pattern.row_ptr.now l.pattern.col_idx.now segment.tau
+        (law_values m f1 l.starts.now l.ends.now)
+        (law_values m f2 l.starts.now l.ends.now)
+        (law_values k f1 l.a_starts.now l.a_ends.now)
+        (law_values k f2 l.a_starts.now l.a_ends.now)
         result work.old work.new }
 {
     let t_start = segment.adjoint_step_start(steps);
     let fraction1 = segment.fraction(segment.first_sample(t_start));
     let fraction2 = segment.fraction(segment.second_sample(t_start));
-    sampled_step(
-        row_ptr,
-        col_idx,
-        starts,
-        ends,
-        a_starts,
-        a_ends,
-        n,
-        segment.tau,
-        fraction1,
-        fraction2,
-        work,
-    )
+    sampled_step(lists, segment.tau, fraction1, fraction2, work)
 }
 
 // All steps in a segment of law 2, the last first; the loop stops at the first step that refuses.
-fn sampled_steps(
-    row_ptr: &[usize],
-    col_idx: &[u32],
-    starts: &[f64],
-    ends: &[f64],
-    a_starts: &[f64],
-    a_ends: &[f64],
-    n: usize,
-    first: Segment,
-    steps: usize,
-    work: &mut [f64],
-) -> Result<(), Refusal>
-    requires pattern { Pattern n row_ptr.now col_idx.now }
-    requires starts_len { (length starts.now ≡ length col_idx.now) × (length ends.now ≡ length col_idx.now) }
-    requires a_starts_len { (length a_starts.now ≡ n) × (length a_ends.now ≡ n) }
-    requires col_idx_in_bounds { 11 * n + 2 * length col_idx.now ≤ length work.old }
+fn sampled_steps(lists: SegmentLists<'_>, first: Segment, steps: usize, work: &mut [f64]) -> Result<(), Refusal>
+    requires room { 11 * lists.pattern.n + 2 * length lists.pattern.col_idx.now ≤ length work.old }
     requires step_value { (first.step ≡ 0) × (steps ≤ 65535) }
-    ensures { StepsTaken
-        (sampled_step_fault n row_ptr.now col_idx.now starts.now ends.now
-        a_starts.now a_ends.now first.start first.end first.tau steps)
-        (sampled_step_image n row_ptr.now col_idx.now starts.now ends.now
-        a_starts.now a_ends.now first.start first.end first.tau steps)
-        n (11 * n + 2 * length col_idx.now) (segment_steps 0 steps) result work.old work.new }
+    ensures { let l = lists.entry in
+        let p = l.pattern in
+        StepsTaken
+        (sampled_step_fault p.n p.row_ptr.now p.col_idx.now l.starts.now l.ends.now
+        l.a_starts.now l.a_ends.now first.start first.end first.tau steps)
+        (sampled_step_image p.n p.row_ptr.now p.col_idx.now l.starts.now l.ends.now
+        l.a_starts.now l.a_ends.now first.start first.end first.tau steps)
+        p.n (11 * p.n + 2 * length p.col_idx.now) (segment_steps 0 steps) result work.old work.new }
 {
     let mut segment = first;
     for _ in 0..steps {
-        sampled_step_at(
-            row_ptr, col_idx, starts, ends, a_starts, a_ends, n, segment, steps, work,
-        )?;
+        sampled_step_at(lists, segment, steps, work)?;
         segment = segment.next();
     }
     Ok(())
 }
 
+// The Taylor sum of a step with one list for both samples, whose roots lie at 6n of the work slice and are kept.
+fn constant_taylor4(sample: Sample<'_>, factors: Factors, work: &mut [f64])
+    requires { 7 * sample.pattern.n ≤ length work.old }
+    ensures { let w = work.old in
+        let n = sample.entry.pattern.n in
+        let L = product_of sample.entry in
+        let r = part (6 * n) n w in
+        TermsAdded (ieee binary64) n (6 * n) (reciprocal_factorial binary64) 4
+        (weighted_omega4 (ieee binary64) n minus_half factors.s factors.sign factors.tau L L r r) w work.new }
+{
+    let n = sample.pattern.n;
+    let (vectors, roots) = work.split_at_mut(6 * n);
+    let omega = ConstantWeightedOmega4 {
+        both: WeightedSample {
+            sample,
+            roots: &roots[..n],
+        },
+        factors,
+    };
+    taylor_sum(&omega, 4, vectors);
+}
+
 // All steps in a segment of law 0 or 1: both samples have the values vals and the weights a, whose roots are taken once.
-fn constant_steps(
-    row_ptr: &[usize],
-    col_idx: &[u32],
-    vals: &[f64],
-    a: &[f64],
-    n: usize,
-    tau: f64,
-    steps: usize,
-    work: &mut [f64],
-) -> Result<(), Refusal>
-    requires valued_pattern { ValuedPattern n row_ptr.now col_idx.now vals.now }
-    requires a_len { (length a.now ≡ n) × (0 < steps) × (steps ≤ 65535) }
-    requires col_idx_in_bounds { 11 * n + 2 * length col_idx.now ≤ length work.old }
-    ensures { let x = vals.now in
+fn constant_steps(sample: Sample<'_>, a: &[f64], tau: f64, steps: usize, work: &mut [f64]) -> Result<(), Refusal>
+    requires a_len { (length a.now ≡ sample.pattern.n) × (0 < steps) × (steps ≤ 65535) }
+    requires room { 11 * sample.pattern.n + 2 * length sample.pattern.col_idx.now ≤ length work.old }
+    ensures { let p = sample.entry.pattern in
+        let x = sample.entry.vals.now in
         let w = a.now in
-        StepsTaken (λ s. weight_fault w w) (λ s. step_image n row_ptr.now col_idx.now tau x x w w)
-        n (11 * n + 2 * length col_idx.now) (segment_steps 0 steps) result work.old work.new }
+        StepsTaken (λ s. weight_fault w w) (λ s. step_image p.n p.row_ptr.now p.col_idx.now tau x x w w)
+        p.n (11 * p.n + 2 * length p.col_idx.now) (segment_steps 0 steps) result work.old work.new }
 {
     check_sample_weights(a)?;
-    load_roots(a, work, 6 * n);
+    load_roots(a, work, 6 * sample.pattern.n);
+    let factors = Factors {
+        tau,
+        sign: -1.0,
+        s: SQRT3_OVER_12_F64,
+    };
     for _ in 0..steps {
-        constant_taylor4(
-            row_ptr,
-            col_idx,
-            vals,
-            tau,
-            -1.0,
-            SQRT3_OVER_12_F64,
-            work,
-            n,
-        );
+        constant_taylor4(sample, factors, work);
     }
     Ok(())
 }
@@ -162,10 +142,12 @@ pub fn run_steps<'a>(
         (weighted_run_step_image t a_starts.now a_ends.now course adjoint)
         t.nodes (11 * t.nodes + 2 * length t.cols) course.steps result work.old work.new }
 {
+    let pattern = Pattern {
+        n: trajectory.n,
+        row_ptr: trajectory.row_ptr,
+        col_idx: trajectory.col_idx,
+    };
     let Trajectory {
-        n,
-        row_ptr,
-        col_idx,
         breakpoints,
         starts,
         ends,
@@ -173,12 +155,17 @@ pub fn run_steps<'a>(
     } = trajectory;
     let law = trajectory.laws[0];
     if law == 2 {
+        let lists = SegmentLists {
+            pattern,
+            starts,
+            ends,
+            a_starts,
+            a_ends,
+        };
         let first = Segment::with_tau(breakpoints[0], breakpoints[1], tau);
-        return sampled_steps(
-            row_ptr, col_idx, starts, ends, a_starts, a_ends, n, first, steps, work,
-        );
+        return sampled_steps(lists, first, steps, work);
     }
-    let vals = law_list(law, starts, ends, 0, col_idx.len());
-    let a = law_list(law, a_starts, a_ends, 0, n);
-    constant_steps(row_ptr, col_idx, vals, a, n, tau, steps, work)
+    let vals = law_list(law, starts, ends, 0, pattern.col_idx.len());
+    let a = law_list(law, a_starts, a_ends, 0, pattern.n);
+    constant_steps(Sample { pattern, vals }, a, tau, steps, work)
 }

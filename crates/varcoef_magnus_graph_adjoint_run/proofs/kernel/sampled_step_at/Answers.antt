@@ -15,5 +15,7 @@ returns c =
     let at2 : Float → Float = λ y. sample_time y c2 s.tau in
     let q1 = c.fraction-fraction1.ensures ∙ ap way (c.first_sample.ensures ∙ ap at1 begins) in
     let q2 = c.fraction-fraction2.ensures ∙ ap way (c.second_sample.ensures ∙ ap at2 begins) in
-    sampled-at args.n args.row_ptr.now args.col_idx.now s.tau args.starts.now args.ends.now args.a_starts.now
-    args.a_ends.now _ _ _ _ q1 q2 c.sampled_step.ensures
+    let l = args.lists in
+    let p = l.pattern in
+    sampled-at p.n p.row_ptr.now p.col_idx.now s.tau l.starts.now l.ends.now l.a_starts.now
+    l.a_ends.now _ _ _ _ q1 q2 c.sampled_step.ensures

@@ -12,15 +12,19 @@ loop-init c = steps-begin _ _ (ap (segment_before c.args.first) c.requires.step_
 pub returns-in_err-sampled_step_at : goal.returns-in_err-sampled_step_at
 returns-in_err-sampled_step_at c =
     let a = c.args in
+    let l = a.lists in
+    let p = l.pattern in
     rw (handed_on c.from_residual.ensures)
     (steps-stop c.loop.invariant c.loop-test.true
-    (sampled-one a.n a.row_ptr.now a.col_idx.now a.starts.now a.ends.now a.a_starts.now a.a_ends.now a.first a.steps _ _
+    (sampled-one p.n p.row_ptr.now p.col_idx.now l.starts.now l.ends.now l.a_starts.now l.a_ends.now a.first a.steps _ _
     c.loop.invariant.here c.in_err-sampled_step_at.ensures) refl)
 
 pub loop-preserved : goal.loop-preserved
 loop-preserved c =
     let a = c.args in
+    let l = a.lists in
+    let p = l.pattern in
     steps_on c.loop.invariant c.loop-test.true
-    (sampled-one a.n a.row_ptr.now a.col_idx.now a.starts.now a.ends.now a.a_starts.now a.a_ends.now a.first a.steps _ _
+    (sampled-one p.n p.row_ptr.now p.col_idx.now l.starts.now l.ends.now l.a_starts.now l.a_ends.now a.first a.steps _ _
     c.loop.invariant.here c.in_ok-sampled_step_at.ensures)
     c.next-segment.ensures refl

@@ -7,7 +7,9 @@ use Rattle.varcoef_magnus_graph_adjoint_run.proofs.kernel.sampled_steps.Given as
 abbrev pub invariant-loop : goal.invariant-loop
 invariant-loop l =
     let first = l.initial.segment in
+    let lists = l.lists in
+    let p = lists.pattern in
     StepsWalked
-    (sampled_step_fault l.n l.row_ptr l.col_idx l.starts l.ends l.a_starts l.a_ends first.start first.end first.tau l.steps)
-    (sampled_step_image l.n l.row_ptr l.col_idx l.starts l.ends l.a_starts l.a_ends first.start first.end first.tau l.steps)
-    l.n (11 * l.n + 2 * length l.col_idx) first 0 l.steps l.counter l.initial.work l.work l.segment
+    (sampled_step_fault p.n p.row_ptr.now p.col_idx.now lists.starts.now lists.ends.now lists.a_starts.now lists.a_ends.now first.start first.end first.tau l.steps)
+    (sampled_step_image p.n p.row_ptr.now p.col_idx.now lists.starts.now lists.ends.now lists.a_starts.now lists.a_ends.now first.start first.end first.tau l.steps)
+    p.n (11 * p.n + 2 * length p.col_idx.now) first 0 l.steps l.counter l.initial.work l.work l.segment
