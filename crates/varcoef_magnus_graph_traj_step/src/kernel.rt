@@ -12,7 +12,6 @@ ghost use Rattle.rounding.specs.StepLength.{minus_half};
 ghost use Rattle.arithmetic.specs.Arithmetic.{ieee};
 ghost use Rattle.scratch.specs.Parts.{part, put};
 ghost use Rattle.ieee_square_root.specs.SquareRoot.{square_root};
-ghost use Rattle.graph_checks.specs.Pattern.{Pattern};
 ghost use Rattle.graph_rows.specs.RowProduct.{row_product64};
 ghost use Rattle.graph_pairs.specs.Pairs.{firsts, seconds};
 ghost use Rattle.magnus.specs.Coefficients.{reciprocal_factorial};
@@ -22,9 +21,11 @@ ghost use Rattle.varcoef_magnus_graph_traj_step.specs.SignalScaled.{ScaledTermAd
 ghost use Rattle.varcoef_magnus_graph_traj_step.specs.StepTaken.{StepTaken};
 
 use error::Refusal;
+use graph_rows::kernel::Pattern;
 use graph_traj_samples::kernel::sample;
 use graph_traj_weights::kernel::sample_weights;
 use magnus_graph_coefficients::kernel::reciprocal_factorial;
+use magnus_graph_helpers::factors::Factors;
 use square_roots::kernel::roots_in;
 use varcoef_magnus_graph::SQRT3_OVER_12_F64;
 use varcoef_magnus_graph_pairs::kernel::rooted_products_in;
@@ -33,84 +34,66 @@ use varcoef_magnus_graph_term::kernel::rooted_term_in;
 
 // One term of the Taylor sum, by two walks over the pattern that serve both samples: of v, whose pairs at 4n are scaled by the roots, they
 // form Ωv in its place, scaled too, and add coefficient · Ωv to the sum. The roots and the values are kept.
-fn sampled_term(
-    row_ptr: &[usize],
-    col_idx: &[u32],
-    tau: f64,
-    sign: f64,
-    s: f64,
-    coefficient: f64,
-    work: &mut [f64],
-    n: usize,
-)
-    requires pattern { Pattern n row_ptr.now col_idx.now }
-    requires col_idx_in_bounds { 11 * n + 2 * length col_idx.now ≤ length work.old }
+fn sampled_term(pattern: Pattern<'_>, factors: Factors, coefficient: f64, work: &mut [f64])
+    requires { 11 * pattern.n + 2 * length pattern.col_idx.now ≤ length work.old }
     ensures { let A = ieee binary64 in
         let w = work.old in
-        let m = length col_idx.now in
-        let L1 = row_product64 n row_ptr.now col_idx.now (firsts A m (part (11 * n) (2 * m) w)) in
-        let L2 = row_product64 n row_ptr.now col_idx.now (seconds A m (part (11 * n) (2 * m) w)) in
-        let r1 = firsts A n (part (8 * n) (2 * n) w) in
-        let r2 = seconds A n (part (8 * n) (2 * n) w) in
-        ScaledTermAdded n (weighted_omega4 A n minus_half s sign tau L1 L2 r1 r2) coefficient w work.new }
+        let p = pattern.entry in
+        let n = p.n in
+        let m = length p.col_idx.now in
+        let L = row_product64 n p.row_ptr.now p.col_idx.now in
+        let x = part (11 * n) (2 * m) w in
+        let r = part (8 * n) (2 * n) w in
+        let P = weighted_omega4 A n minus_half factors.s factors.sign factors.tau in
+        let W = P (L (firsts A m x)) (L (seconds A m x)) (firsts A n r) (seconds A n r) in
+        ScaledTermAdded n W coefficient w work.new }
 {
+    let n = pattern.n;
     let pairs = 2 * n;
     let scaled = 4 * n;
     let next = 6 * n;
     let roots = 8 * n;
     let values = 11 * n;
-    let scale = -0.5 * tau;
-    let comm_scale = sign * s * tau * tau;
-    rooted_products_in(
-        row_ptr, col_idx, work, n, values, roots, scaled, pairs, next,
-    );
+    rooted_products_in(pattern, work, values, roots, scaled, pairs, next);
     rooted_term_in(
-        row_ptr,
-        col_idx,
+        pattern,
         work,
-        n,
         values,
         roots,
         next,
         pairs,
         scaled,
-        scale,
-        comm_scale,
+        factors,
         coefficient,
     );
 }
 
 // The Taylor sum of four terms: the vector at 0, the held signal, becomes its successor. The roots and the values are kept. Each term is a
 // call of its own, so that the walks of a term are compiled once and by themselves, with all registers for their loops.
-fn sampled_taylor4(
-    row_ptr: &[usize],
-    col_idx: &[u32],
-    tau: f64,
-    sign: f64,
-    s: f64,
-    work: &mut [f64],
-    n: usize,
-)
-    requires pattern { Pattern n row_ptr.now col_idx.now }
-    requires col_idx_in_bounds { 11 * n + 2 * length col_idx.now ≤ length work.old }
+fn sampled_taylor4(pattern: Pattern<'_>, factors: Factors, work: &mut [f64])
+    requires { 11 * pattern.n + 2 * length pattern.col_idx.now ≤ length work.old }
     ensures { let A = ieee binary64 in
         let w = work.old in
-        let m = length col_idx.now in
-        let L1 = row_product64 n row_ptr.now col_idx.now (firsts A m (part (11 * n) (2 * m) w)) in
-        let L2 = row_product64 n row_ptr.now col_idx.now (seconds A m (part (11 * n) (2 * m) w)) in
-        let r1 = firsts A n (part (8 * n) (2 * n) w) in
-        let r2 = seconds A n (part (8 * n) (2 * n) w) in
-        SumFormed n (reciprocal_factorial binary64) 4 (weighted_omega4 A n minus_half s sign tau L1 L2 r1 r2) w work.new }
+        let p = pattern.entry in
+        let n = p.n in
+        let m = length p.col_idx.now in
+        let L = row_product64 n p.row_ptr.now p.col_idx.now in
+        let x = part (11 * n) (2 * m) w in
+        let r = part (8 * n) (2 * n) w in
+        let P = weighted_omega4 A n minus_half factors.s factors.sign factors.tau in
+        let W = P (L (firsts A m x)) (L (seconds A m x)) (firsts A n r) (seconds A n r) in
+        SumFormed n (reciprocal_factorial binary64) 4 W w work.new }
 {
+    let n = pattern.n;
     let first = reciprocal_factorial(1);
     let second = reciprocal_factorial(2);
     let third = reciprocal_factorial(3);
     let fourth = reciprocal_factorial(4);
     scale_in(work, n, 8 * n, 0, 4 * n);
-    sampled_term(row_ptr, col_idx, tau, sign, s, first, work, n);
-    sampled_term(row_ptr, col_idx, tau, sign, s, second, work, n);
-    sampled_term(row_ptr, col_idx, tau, sign, s, third, work, n);
-    sampled_term(row_ptr, col_idx, tau, sign, s, fourth, work, n);
+    sampled_term(pattern, factors, first, work);
+    sampled_term(pattern, factors, second, work);
+    sampled_term(pattern, factors, third, work);
+    sampled_term(pattern, factors, fourth, work);
 }
 
 // The pairs at 8n become the roots of those at 4n. Two calls take them, for the same reason.
@@ -126,35 +109,41 @@ fn weight_roots(work: &mut [f64], n: usize)
 // One step with samples of law 2 at two fractions of the way through the segment. Row 20 is checked for the first sample, then for the
 // second, and then row 11 for the weights of the first and of the second.
 pub fn sampled_step(
-    row_ptr: &[usize],
-    col_idx: &[u32],
+    pattern: Pattern<'_>,
     starts: &[f64],
     ends: &[f64],
     a_starts: &[f64],
     a_ends: &[f64],
-    n: usize,
     tau: f64,
     fraction1: f64,
     fraction2: f64,
     work: &mut [f64],
 ) -> Result<(), Refusal>
-    requires pattern { Pattern n row_ptr.now col_idx.now }
-    requires starts_len { (length starts.now ≡ length col_idx.now) × (length ends.now ≡ length col_idx.now) }
-    requires a_starts_len { (length a_starts.now ≡ n) × (length a_ends.now ≡ n) }
-    requires col_idx_in_bounds { 11 * n + 2 * length col_idx.now ≤ length work.old }
+    requires starts_len { length starts.now ≡ length pattern.col_idx.now }
+    requires ends_len { length ends.now ≡ length pattern.col_idx.now }
+    requires a_starts_len { length a_starts.now ≡ pattern.n }
+    requires a_ends_len { length a_ends.now ≡ pattern.n }
+    requires room { 11 * pattern.n + 2 * length pattern.col_idx.now ≤ length work.old }
     ensures { let m = length starts.now in
         let k = length a_starts.now in
-        StepTaken n row_ptr.now col_idx.now tau
+        let p = pattern.entry in
+        StepTaken p.n p.row_ptr.now p.col_idx.now tau
         (law_values m fraction1 starts.now ends.now)
         (law_values m fraction2 starts.now ends.now)
         (law_values k fraction1 a_starts.now a_ends.now)
         (law_values k fraction2 a_starts.now a_ends.now)
         result work.old work.new }
 {
-    let m = col_idx.len();
+    let n = pattern.n;
+    let m = pattern.col_idx.len();
     sample(starts, ends, 0, m, fraction1, fraction2, work, 11 * n)?;
     sample_weights(a_starts, a_ends, fraction1, fraction2, work, 4 * n)?;
     weight_roots(work, n);
-    sampled_taylor4(row_ptr, col_idx, tau, -1.0, SQRT3_OVER_12_F64, work, n);
+    let factors = Factors {
+        tau,
+        sign: -1.0,
+        s: SQRT3_OVER_12_F64,
+    };
+    sampled_taylor4(pattern, factors, work);
     Ok(())
 }
