@@ -106,36 +106,47 @@ fn weight_roots(work: &mut [f64], n: usize)
     roots_in(work, n, 5 * n, 9 * n);
 }
 
+// What a step takes in a segment of law 2: the pattern, and the start and end lists of the values and of the weights.
+#[derive(Clone, Copy)]
+pub struct SegmentLists<'a> {
+    pub pattern: Pattern<'a>,
+    pub starts: &'a [f64],
+    pub ends: &'a [f64],
+    pub a_starts: &'a [f64],
+    pub a_ends: &'a [f64],
+    pub ghost values_len: { (length starts.now ≡ length pattern.col_idx.now) × (length ends.now ≡ length pattern.col_idx.now) },
+    pub ghost weights_len: { (length a_starts.now ≡ pattern.n) × (length a_ends.now ≡ pattern.n) },
+}
+
 // One step with samples of law 2 at two fractions of the way through the segment. Row 20 is checked for the first sample, then for the
 // second, and then row 11 for the weights of the first and of the second.
 pub fn sampled_step(
-    pattern: Pattern<'_>,
-    starts: &[f64],
-    ends: &[f64],
-    a_starts: &[f64],
-    a_ends: &[f64],
+    lists: SegmentLists<'_>,
     tau: f64,
     fraction1: f64,
     fraction2: f64,
     work: &mut [f64],
 ) -> Result<(), Refusal>
-    requires starts_len { length starts.now ≡ length pattern.col_idx.now }
-    requires ends_len { length ends.now ≡ length pattern.col_idx.now }
-    requires a_starts_len { length a_starts.now ≡ pattern.n }
-    requires a_ends_len { length a_ends.now ≡ pattern.n }
-    requires room { 11 * pattern.n + 2 * length pattern.col_idx.now ≤ length work.old }
-    ensures { let m = length starts.now in
-        let k = length a_starts.now in
-        let p = pattern.entry in
-        StepTaken p.n p.row_ptr.now p.col_idx.now tau
-        (law_values m fraction1 starts.now ends.now)
-        (law_values m fraction2 starts.now ends.now)
-        (law_values k fraction1 a_starts.now a_ends.now)
-        (law_values k fraction2 a_starts.now a_ends.now)
+    requires { 11 * lists.pattern.n + 2 * length lists.pattern.col_idx.now ≤ length work.old }
+    ensures { let l = lists.entry in
+        let m = length l.starts.now in
+        let k = length l.a_starts.now in
+        StepTaken l.pattern.n l.pattern.row_ptr.now l.pattern.col_idx.now tau
+        (law_values m fraction1 l.starts.now l.ends.now)
+        (law_values m fraction2 l.starts.now l.ends.now)
+        (law_values k fraction1 l.a_starts.now l.a_ends.now)
+        (law_values k fraction2 l.a_starts.now l.a_ends.now)
         result work.old work.new }
 {
-    let n = pattern.n;
-    let m = pattern.col_idx.len();
+    let n = lists.pattern.n;
+    let m = lists.pattern.col_idx.len();
+    let SegmentLists {
+        starts,
+        ends,
+        a_starts,
+        a_ends,
+        ..
+    } = lists;
     sample(starts, ends, 0, m, fraction1, fraction2, work, 11 * n)?;
     sample_weights(a_starts, a_ends, fraction1, fraction2, work, 4 * n)?;
     weight_roots(work, n);
@@ -144,6 +155,6 @@ pub fn sampled_step(
         sign: -1.0,
         s: SQRT3_OVER_12_F64,
     };
-    sampled_taylor4(pattern, factors, work);
+    sampled_taylor4(lists.pattern, factors, work);
     Ok(())
 }

@@ -9,29 +9,29 @@ use Rattle.varcoef_magnus_graph_traj_step.proofs.kernel.sampled_step.Goals as go
 pub returns-in_err-sample : goal.returns-in_err-sample
 returns-in_err-sample c =
     let a = c.args in
-    let p = a.pattern in
-    let pre = c.requires in
+    let l = a.lists in
+    let p = l.pattern in
     let refused = handed_on c.from_residual.ensures in
-    samples-refused p.n p.row_ptr.now p.col_idx.now a.tau a.fraction1 a.fraction2 a.starts.now a.ends.now a.a_starts.now a.a_ends.now
-    a.work.now _ _ (pre.starts_len, pre.ends_len) pre.a_starts_len pre.room
+    samples-refused p.n p.row_ptr.now p.col_idx.now a.tau a.fraction1 a.fraction2 l.starts.now l.ends.now l.a_starts.now l.a_ends.now
+    a.work.now _ _ l.values_len l.weights_len.0 c.requires
     (refused ∙ c.in_err-sample.ensures.0, c.in_err-sample.ensures.1) refused
 
 pub returns-in_err-sample_weights : goal.returns-in_err-sample_weights
 returns-in_err-sample_weights c =
     let a = c.args in
-    let p = a.pattern in
-    let pre = c.requires in
+    let l = a.lists in
+    let p = l.pattern in
     let refused = handed_on c.from_residual-in_err-sample_weights.ensures in
-    weights-refused p.n p.row_ptr.now p.col_idx.now a.tau a.fraction1 a.fraction2 a.starts.now a.ends.now a.a_starts.now a.a_ends.now
-    a.work.now _ _ (pre.starts_len, pre.ends_len) pre.a_starts_len pre.room c.in_ok-sample.ensures _ _ refl
+    weights-refused p.n p.row_ptr.now p.col_idx.now a.tau a.fraction1 a.fraction2 l.starts.now l.ends.now l.a_starts.now l.a_ends.now
+    a.work.now _ _ l.values_len l.weights_len.0 c.requires c.in_ok-sample.ensures _ _ refl
     (refused ∙ c.in_err-sample_weights.ensures.0, c.in_err-sample_weights.ensures.1) refused
 
 pub returns : goal.returns
 unfolding of_bits neg
 returns c =
     let a = c.args in
-    let p = a.pattern in
-    let pre = c.requires in
-    sampled-taken p.n p.row_ptr.now p.col_idx.now a.tau a.fraction1 a.fraction2 a.starts.now a.ends.now a.a_starts.now a.a_ends.now
-    a.work.now _ _ (pre.starts_len, pre.ends_len) pre.a_starts_len pre.room c.in_ok-sample.ensures _ _ refl
+    let l = a.lists in
+    let p = l.pattern in
+    sampled-taken p.n p.row_ptr.now p.col_idx.now a.tau a.fraction1 a.fraction2 l.starts.now l.ends.now l.a_starts.now l.a_ends.now
+    a.work.now _ _ l.values_len l.weights_len.0 c.requires c.in_ok-sample.ensures _ _ refl
     c.in_ok-sample_weights.ensures _ refl c.weight_roots.ensures c.sampled_taylor4.ensures
