@@ -51,16 +51,7 @@ impl<'a, 'r> Omega for WeightedOmega4<'a, 'r> {
         self.second.product_in(work, n, b);
         self.first.product_in(work, b, n);
         self.second.product_in(work, a, c);
-        omega_sum(
-            work,
-            n,
-            a,
-            b,
-            c,
-            n,
-            self.factors.scale(),
-            self.factors.comm_scale(),
-        );
+        omega_sum(work, n, a, b, c, n, self.factors);
         add_scaled(work, n, coefficient, n, 0);
     }
 }

@@ -45,16 +45,7 @@ impl<'a, 'r> Omega for ConstantWeightedOmega4<'a, 'r> {
         let a = 2 * n;
         self.both.product_in(work, n, a);
         self.both.product_in(work, a, n);
-        omega_sum(
-            work,
-            n,
-            a,
-            a,
-            n,
-            n,
-            self.factors.scale(),
-            self.factors.comm_scale(),
-        );
+        omega_sum(work, n, a, a, n, n, self.factors);
         add_scaled(work, n, coefficient, n, 0);
     }
 }

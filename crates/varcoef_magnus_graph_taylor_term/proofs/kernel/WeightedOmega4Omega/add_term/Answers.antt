@@ -1,23 +1,16 @@
 -- A term of the weighted Ω of order 4 meets the contract of the trait: the four weighted products are placed as the formula asks, d over v, which is
 -- no longer needed; then Ωv is formed of them over d, and the coefficient times Ωv is added to the sum. Assumes nothing.
-use Rattle.std.proofs.Common.{◌≡◌, ℕ, ◌*◌, List, Float, arith, ap₂, ◌∙◌}
+use Rattle.std.proofs.Common.{◌≡◌, ℕ, ◌*◌, List, Float, arith}
 use mathlib.Core.Path.{subst}
 use Rattle.std.specs.Float.{binary64}
 use Rattle.rounding.specs.StepLength.{minus_half}
 use Rattle.arithmetic.specs.Arithmetic.{ieee}
-use Rattle.scratch.specs.Parts.{part, put}
 use Rattle.graph_rows.specs.Product.{product_of}
 use Rattle.magnus.specs.Operators.{weighted}
-use Rattle.magnus_graph_helpers.specs.Terms.{omega4_sum}
 use Rattle.magnus_graph_helpers.proofs.Terms.{room-left, term4-added}
 use Rattle.varcoef_magnus_graph_products.specs.WeightedProduct.{with_product}
 use Rattle.varcoef_magnus_graph_products.proofs.WeightedProduct.{weighted-placed}
 use Rattle.varcoef_magnus_graph_taylor_term.proofs.kernel.WeightedOmega4Omega.add_term.Goals as goal
-
--- the work slice once Ωv, formed with these factors, is written over d
-abbrev summed : ℕ → Float → Float → List Float → List Float
-summed n scale comm w =
-    put n (omega4_sum (ieee binary64) n scale comm (part (2 * n) n w) (part (3 * n) n w) (part (4 * n) n w) (part n n w)) w
 
 -- a weighted product, of as many places as is said otherwise
 product-of : {m n : ℕ} (L : List Float → List Float) (r : List Float) (source target : ℕ) (w : List Float) {w' : List Float}
@@ -45,6 +38,5 @@ returns c =
     let d = weighted-placed A n L1 r1 (3 * n) n _ _ room2 (omega arith) (omega arith) c.product_in-3.ensures in
     let room3 = room-left A n d (6 * n) room2 in
     let e = weighted-placed A n L2 r2 (2 * n) (4 * n) _ _ room3 (omega arith) (omega arith) (product-of L2 r2 (2 * n) (4 * n) _ o.same_nodes c.product_in-4.ensures) in
-    let sum = c.omega_sum.ensures ∙ ap₂ (λ x y. summed n x y c.product_in-4.new.work) c.scale.ensures c.comm_scale.ensures in
     term4-added A n (6 * n) minus_half f.s f.sign f.tau args.coefficient (weighted A n r1 L1) (weighted A n r2 L2)
-    args.work.now _ _ _ _ _ _ (omega (arith, room)) (omega arith) a b d e sum c.add_scaled.ensures
+    args.work.now _ _ _ _ _ _ (omega (arith, room)) (omega arith) a b d e c.omega_sum.ensures c.add_scaled.ensures

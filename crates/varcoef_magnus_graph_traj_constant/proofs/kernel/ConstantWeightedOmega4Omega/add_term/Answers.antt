@@ -1,21 +1,14 @@
 -- A term of the weighted Ω of order 4 of one sample meets the contract of the trait: two weighted products, the second over v, which is no longer
 -- needed, and Ωv of them over it; then the coefficient times Ωv is added to the sum. Assumes nothing.
-use Rattle.std.proofs.Common.{ℕ, ◌*◌, List, Float, arith, ap₂, ◌∙◌}
+use Rattle.std.proofs.Common.{◌*◌, arith}
 use Rattle.std.specs.Float.{binary64}
 use Rattle.rounding.specs.StepLength.{minus_half}
 use Rattle.arithmetic.specs.Arithmetic.{ieee}
-use Rattle.scratch.specs.Parts.{part, put}
 use Rattle.graph_rows.specs.Product.{product_of}
 use Rattle.magnus.specs.Operators.{weighted}
-use Rattle.magnus_graph_helpers.specs.Terms.{omega4_sum}
 use Rattle.magnus_graph_helpers.proofs.Terms.{room-left, term4-constant-added}
 use Rattle.varcoef_magnus_graph_products.proofs.WeightedProduct.{weighted-placed}
 use Rattle.varcoef_magnus_graph_traj_constant.proofs.kernel.ConstantWeightedOmega4Omega.add_term.Goals as goal
-
--- the work slice once Ωv, formed with these factors, is written over d
-abbrev summed : ℕ → Float → Float → List Float → List Float
-summed n scale comm w =
-    put n (omega4_sum (ieee binary64) n scale comm (part (2 * n) n w) (part (2 * n) n w) (part n n w) (part n n w)) w
 
 pub returns : goal.returns
 returns c =
@@ -29,6 +22,5 @@ returns c =
     let room = c.requires in
     let a = weighted-placed A n L r n (2 * n) args.work.now _ room (omega arith) (omega arith) c.product_in.ensures in
     let d = weighted-placed A n L r (2 * n) n _ _ (room-left A n a (6 * n) room) (omega arith) (omega arith) c.product_in-2.ensures in
-    let sum = c.omega_sum.ensures ∙ ap₂ (λ x y. summed n x y c.product_in-2.new.work) c.scale.ensures c.comm_scale.ensures in
     term4-constant-added A n (6 * n) minus_half f.s f.sign f.tau args.coefficient (weighted A n r L) args.work.now _ _ _ _
-    (omega (arith, room)) (omega arith) a d sum c.add_scaled.ensures
+    (omega (arith, room)) (omega arith) a d c.omega_sum.ensures c.add_scaled.ensures
