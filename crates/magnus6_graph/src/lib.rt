@@ -7,6 +7,7 @@ ghost use Rattle.magnus6_graph_outcome.specs.StepOutcome.{step6_input, Stepped6}
 
 use error::Refusal;
 use graph_checks::CsrParts;
+use graph_rows::kernel::Sample;
 use magnus_graph_checks::binary64_values;
 use magnus6_graph_checks::check_step6;
 use magnus6_graph_helpers::kernel::step6;
@@ -50,15 +51,9 @@ pub fn apply_exp_omega6_kernel(
     binary64_values(second.vals);
     binary64_values(third.vals);
     step6(
-        first.row_ptr,
-        first.col_idx,
-        first.vals,
-        second.row_ptr,
-        second.col_idx,
-        second.vals,
-        third.row_ptr,
-        third.col_idx,
-        third.vals,
+        Sample::from_parts(first),
+        Sample::from_parts(second),
+        Sample::from_parts(third),
         tau,
         src,
         dst,

@@ -8,7 +8,9 @@ ghost use Rattle.varcoef_magnus_graph_outcome.specs.StepOutcome.{step_input, Ste
 
 use error::Refusal;
 use graph_checks::CsrParts;
+use graph_rows::kernel::Sample;
 use magnus_graph_checks::binary64_values;
+use magnus_graph_helpers::factors::Factors;
 use varcoef_magnus_graph_step::kernel::step4_la;
 use varcoef_magnus_graph_step_checks::check_weighted_step;
 
@@ -131,18 +133,17 @@ fn step(
     };
     binary64_values(first.vals);
     binary64_values(second.vals);
-    step4_la(
-        first.row_ptr,
-        first.col_idx,
-        first.vals,
-        second.row_ptr,
-        second.col_idx,
-        second.vals,
-        a1,
-        a2,
+    let factors = Factors {
         tau,
         sign,
-        SQRT3_OVER_12_F64,
+        s: SQRT3_OVER_12_F64,
+    };
+    step4_la(
+        Sample::from_parts(first),
+        Sample::from_parts(second),
+        a1,
+        a2,
+        factors,
         src,
         dst,
         work,
