@@ -18,7 +18,7 @@ use varcoef_magnus_graph_adjoint_run::kernel::run_steps;
 // 16, 7, 8 and 10: every slice is as it was. Refused by row 20 or 11 in a step, dst is as it was. Once there was a step, the first
 // 11n + 2m elements of work become +0. No steps copy src, and leave work as it was.
 pub fn evolve_state_adjoint_into<'a>(
-    trajectory: Trajectory<'_>,
+    trajectory: Trajectory<'a>,
     tau: f64,
     steps: usize,
     rho_bar_max: f64,

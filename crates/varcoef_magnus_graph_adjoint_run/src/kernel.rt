@@ -1,10 +1,11 @@
 // The steps of a weighted adjoint run, one after the other (01, parts 7, 8 and 10), for callers that have checked their arguments. The
 // held signal is the vector at 0 of the work slice.
-ghost use Rattle.std.specs.Prelude.{◌≡◌, ◌+◌, ◌*◌, ◌≤◌, ◌<◌, length};
+ghost use Rattle.std.specs.Prelude.{◌≡◌, map, ◌+◌, ◌*◌, ◌≤◌, ◌<◌, length};
 ghost use Rattle.std.specs.Float.{binary64};
 ghost use Rattle.rounding.specs.StepLength.{minus_half};
 ghost use Rattle.arithmetic.specs.Arithmetic.{ieee};
-ghost use Rattle.scratch.specs.Parts.{part};
+ghost use Rattle.scratch.specs.Parts.{part, put};
+ghost use Rattle.ieee_square_root.specs.SquareRoot.{square_root};
 ghost use Rattle.graph_rows.specs.Product.{product_of};
 ghost use Rattle.magnus.specs.Coefficients.{reciprocal_factorial};
 ghost use Rattle.magnus_graph_helpers.specs.Terms.{TermsAdded};
@@ -28,9 +29,10 @@ use graph_traj_parts::Trajectory;
 use graph_traj_segment::kernel::Segment;
 use magnus_graph_helpers::factors::Factors;
 use magnus_graph_taylor::kernel::taylor_sum;
+use square_roots::kernel::sqrt_into_slice;
 use varcoef_magnus_graph::SQRT3_OVER_12_F64;
 use varcoef_magnus_graph_checks::check_sample_weights;
-use varcoef_magnus_graph_products::kernel::{WeightedSample, load_roots};
+use varcoef_magnus_graph_products::kernel::WeightedSample;
 use varcoef_magnus_graph_traj_constant::kernel::ConstantWeightedOmega4;
 use varcoef_magnus_graph_traj_step::kernel::{SegmentLists, sampled_step};
 
@@ -100,6 +102,14 @@ fn constant_taylor4(sample: Sample<'_>, factors: Factors, work: &mut [f64])
     taylor_sum(&omega, 4, vectors);
 }
 
+// The vector at `at` becomes the square roots of the weights.
+fn load_roots(weights: &[f64], work: &mut [f64], at: usize)
+    requires { at + length weights.now ≤ length work.old }
+    ensures { work.new ≡ put at (map (square_root binary64) weights.now) work.old }
+{
+    sqrt_into_slice(weights, &mut work[at..at + weights.len()]);
+}
+
 // All steps in a segment of law 0 or 1: both samples have the values vals and the weights a, whose roots are taken once.
 fn constant_steps(sample: Sample<'_>, a: &[f64], tau: f64, steps: usize, work: &mut [f64]) -> Result<(), Refusal>
     requires a_len { (length a.now ≡ sample.pattern.n) × (0 < steps) × (steps ≤ 65535) }
@@ -125,7 +135,7 @@ fn constant_steps(sample: Sample<'_>, a: &[f64], tau: f64, steps: usize, work: &
 
 // All steps of the run, by the law of its segment.
 pub fn run_steps<'a>(
-    trajectory: Trajectory<'_>,
+    trajectory: Trajectory<'a>,
     tau: f64,
     steps: usize,
     a_starts: &'a [f64],

@@ -38,13 +38,13 @@ law_list-a-requires c =
     let nodes = c.requires.accepted.accepted.pattern.rows.few-rows in
     one-list-lent _ (omega (arith, nodes)) c.requires.a_starts_len.0 c.requires.a_starts_len.1
 
-pub constant_steps-requires-clause-valued_pattern : goal.constant_steps-requires-clause-valued_pattern
-constant_steps-requires-clause-valued_pattern c =
+-- the list that the law names has a value for each column
+pub invariant_of-constant_steps : goal.invariant_of-constant_steps
+invariant_of-constant_steps c =
     let t = trajectory_of c.args.trajectory in
     let given = c.requires.accepted in
     let m = length t.cols in
     record {
-      pattern = given.accepted.pattern;
       count =
           ap length c.law_list-vals.ensures
           ∙ length-law _ 0 m _ _ (list-lent m (starts-size t given)) (list-lent m (ends-size t given));
