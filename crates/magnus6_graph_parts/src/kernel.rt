@@ -78,10 +78,10 @@ fn b3_sum(work: &mut [f64], n: usize, tau: f64)
     let a1 = 6 * n;
     let a2 = 7 * n;
     let a3 = 8 * n;
-    let target = 11 * n;
     let scale = tau * TEN_OVER_3;
-    for i in 0..n {
-        work[target + i] = second_difference(scale, work[a1 + i], work[a2 + i], work[a3 + i]);
+    let (before, behind) = work.split_at_mut(11 * n);
+    for (i, b3) in behind[..n].iter_mut().enumerate() {
+        *b3 = second_difference(scale, before[a1 + i], before[a2 + i], before[a3 + i]);
     }
 }
 
