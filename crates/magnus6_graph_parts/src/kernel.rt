@@ -47,6 +47,7 @@ pub const TEN_OVER_3: f64 = 10.0 / 3.0;
 
 // The three samples of a step of order 6, which have the same number of nodes, and the step's length τ. `shared` says that the first and the third
 // sample have one pattern: one walk over it then forms both of their products with a vector.
+// The work slice stays beside them: each part lends it on, and a struct that holds a slice to write to is not Copy.
 #[derive(Clone, Copy)]
 pub struct Samples6<'a> {
     pub first: Sample<'a>,
