@@ -35,6 +35,7 @@ fn shared_products_in(
 {
     let n = pattern.n;
     let source_end = source + n;
+    // By index: the source may lie before the targets or behind them, so no one split of the slice serves.
     for i in 0..n {
         let v = Shared {
             list: &work[source..source_end],

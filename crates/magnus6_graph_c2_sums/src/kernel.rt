@@ -8,6 +8,7 @@ ghost use Rattle.magnus.specs.Omega6.{constants6};
 ghost use Rattle.magnus6_graph_parts.specs.Omega6Parts.{twice_first_plus, c2_sum};
 
 use magnus6_graph_parts::kernel::{SQRT15_OVER_3, TEN_OVER_3, second_difference};
+use scratch::kernel::combine_within;
 
 // A constant of magnus6_graph.rs; its value is that of constants6 in the crate magnus.
 const ONE_OVER_60: f64 = 1.0 / 60.0;
@@ -19,12 +20,7 @@ pub fn w_sum(work: &mut [f64], n: usize)
         let Wx = twice_first_plus (ieee binary64) n (part (11 * n) n w) (part (13 * n) n w) in
         work.new ≡ put (14 * n) Wx w }
 {
-    let b3 = 11 * n;
-    let c1 = 13 * n;
-    let target = 14 * n;
-    for i in 0..n {
-        work[target + i] = work[b3 + i] + work[b3 + i] + work[c1 + i];
-    }
+    combine_within(work, n, 11 * n, 13 * n, 14 * n, |b3, c1| b3 + b3 + c1);
 }
 
 // C2 x from products of W x, of y and of B2 y and L2 y.
@@ -42,17 +38,18 @@ pub fn c2_sum(work: &mut [f64], n: usize, tau: f64)
     let l2_b2_y = 17 * n;
     let l1_l2_y = 18 * n;
     let l3_l2_y = 19 * n;
-    let target = 20 * n;
     let two_b3_scale = (tau + tau) * TEN_OVER_3;
     let b2_b1_scale = tau * SQRT15_OVER_3 * -tau;
-    for i in 0..n {
+    let (before, behind) = work.split_at_mut(20 * n);
+    for (i, c2) in behind[..n].iter_mut().enumerate() {
         let two_b3_y = second_difference(
             two_b3_scale,
-            work[l1_y + i],
-            work[l2_y + i],
-            work[l3_y + i],
+            before[l1_y + i],
+            before[l2_y + i],
+            before[l3_y + i],
         );
-        let c1_y = -tau * work[l2_b2_y + i] - b2_b1_scale * (work[l1_l2_y + i] - work[l3_l2_y + i]);
-        work[target + i] = -ONE_OVER_60 * (-tau * work[l2_w + i] - (two_b3_y + c1_y));
+        let c1_y = -tau * before[l2_b2_y + i]
+            - b2_b1_scale * (before[l1_l2_y + i] - before[l3_l2_y + i]);
+        *c2 = -ONE_OVER_60 * (-tau * before[l2_w + i] - (two_b3_y + c1_y));
     }
 }

@@ -47,6 +47,7 @@ pub const TEN_OVER_3: f64 = 10.0 / 3.0;
 
 // The three samples of a step of order 6, which have the same number of nodes, and the step's length τ. `shared` says that the first and the third
 // sample have one pattern: one walk over it then forms both of their products with a vector.
+// The work slice stays beside them: each part lends it on, and a struct that holds a slice to write to is not Copy.
 #[derive(Clone, Copy)]
 pub struct Samples6<'a> {
     pub first: Sample<'a>,
@@ -78,10 +79,10 @@ fn b3_sum(work: &mut [f64], n: usize, tau: f64)
     let a1 = 6 * n;
     let a2 = 7 * n;
     let a3 = 8 * n;
-    let target = 11 * n;
     let scale = tau * TEN_OVER_3;
-    for i in 0..n {
-        work[target + i] = second_difference(scale, work[a1 + i], work[a2 + i], work[a3 + i]);
+    let (before, behind) = work.split_at_mut(11 * n);
+    for (i, b3) in behind[..n].iter_mut().enumerate() {
+        *b3 = second_difference(scale, before[a1 + i], before[a2 + i], before[a3 + i]);
     }
 }
 

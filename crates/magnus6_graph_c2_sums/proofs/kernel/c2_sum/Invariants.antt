@@ -1,5 +1,5 @@
--- The invariant of `magnus6_graph_c2_sums::kernel::c2_sum`: the places of C2 x before place i are written, and nothing else.
-use Rattle.std.specs.Prelude.{◌*◌}
+-- The invariant of `magnus6_graph_c2_sums::kernel::c2_sum`: the places of C2 x before place i are written.
+use Rattle.std.specs.Prelude.{◌*◌, length}
 use Rattle.std.specs.Float.{binary64}
 use Rattle.arithmetic.specs.Arithmetic.{ieee}
 use Rattle.scratch.specs.Parts.{part}
@@ -11,8 +11,9 @@ use Rattle.magnus6_graph_c2_sums.proofs.kernel.c2_sum.Given as goal
 abbrev pub invariant-loop-i : goal.invariant-loop-i
 invariant-loop-i l =
     let n = l.n in
-    let w = l.fn.work in
-    Written (20 * n)
+    let w = l.before in
+    let old = l.initial.c2-items in
+    Written 0
     (c2_sum_at (ieee binary64) constants6 l.tau (part (15 * n) n w) (part (7 * n) n w) (part (16 * n) n w) (part (8 * n) n w) (part (17 * n) n w)
     (part (18 * n) n w) (part (19 * n) n w))
-    n w l.i l.work
+    (length old) old l.i l.c2-items
