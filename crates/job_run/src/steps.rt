@@ -1,12 +1,15 @@
 // The steps, for jobs whose bytes have been checked.
+ghost use Rattle.std.specs.Prelude.{◌≡◌};
+ghost use Rattle.magnus_graph_faults.specs.StepChecks.{sample_of};
 ghost use Rattle.magnus_graph_outcome.specs.StepOutcome.{step_answer, step_output};
 ghost use Rattle.varcoef_magnus_graph_outcome.specs.StepOutcome.{step_answer as weighted_answer, step_output as weighted_output};
 ghost use Rattle.magnus6_graph_outcome.specs.StepOutcome.{step6_answer, step6_output};
 ghost use Rattle.job_format.specs.JobFormat.{job_of};
-ghost use Rattle.job_step.specs.JobOutcome.{job_sign, job_step, job_weighted_step, job_step6, job_step_answer, job_step_output};
+ghost use Rattle.job_step.specs.JobOutcome.{with_values, job_sign, job_step, job_weighted_step, job_step6, job_step_answer, job_step_output};
 ghost use Rattle.job_step.specs.Stepped.{Small, Fields};
 ghost use Rattle.job_answer.specs.AnswerText.{AnswerText};
 
+use graph_checks::CsrParts;
 use job_answer::kernel::answer_text;
 use job_checks::Field;
 use job_format::kernel::Job;
@@ -42,12 +45,26 @@ impl<'a> JobStep<'a> {
         self.unweighted_text()
     }
 
+    // The parts of a sample: the job's pattern, with these values.
+    fn sample<'v>(&'v self, vals: &'v [f64]) -> CsrParts<'v>
+        ensures { sample_of result ≡ with_values (job_of self.now.job) vals.now }
+    {
+        CsrParts {
+            n: self.job.nodes(),
+            row_ptr: self.row_ptr,
+            col_idx: self.col_idx,
+            vals,
+        }
+    }
+
     // The text of the unweighted step of order 4.
     fn unweighted_text(&self) -> Text
         ensures { let job = job_of self.now.job in
             AnswerText (step_answer (job_sign job) (job_step job)) (step_output (job_sign job) (job_step job)) result }
     {
         let n = self.job.nodes();
+        let first = self.sample(self.vals1);
+        let second = self.sample(self.vals2);
         let tau = self.job.tau();
         let bound = self.job.bound();
         let checked = self.job.is_checked();
@@ -57,38 +74,12 @@ impl<'a> JobStep<'a> {
         let work = &mut space[..5 * n];
         if self.job.is_adjoint() {
             let answer = apply_exp_omega4_adj_kernel(
-                n,
-                self.row_ptr,
-                self.col_idx,
-                self.vals1,
-                n,
-                self.row_ptr,
-                self.col_idx,
-                self.vals2,
-                tau,
-                bound,
-                checked,
-                self.src,
-                dst,
-                work,
+                first, second, tau, bound, checked, self.src, dst, work,
             );
             return answer_text(answer, dst);
         }
         let answer = apply_exp_omega4_kernel(
-            n,
-            self.row_ptr,
-            self.col_idx,
-            self.vals1,
-            n,
-            self.row_ptr,
-            self.col_idx,
-            self.vals2,
-            tau,
-            bound,
-            checked,
-            self.src,
-            dst,
-            work,
+            first, second, tau, bound, checked, self.src, dst, work,
         );
         answer_text(answer, dst)
     }
@@ -99,6 +90,8 @@ impl<'a> JobStep<'a> {
             AnswerText (weighted_answer (job_sign job) (job_weighted_step job)) (weighted_output (job_sign job) (job_weighted_step job)) result }
     {
         let n = self.job.nodes();
+        let first = self.sample(self.vals1);
+        let second = self.sample(self.vals2);
         let tau = self.job.tau();
         let bound = self.job.bound();
         let root_bound = self.job.root_bound();
@@ -114,44 +107,12 @@ impl<'a> JobStep<'a> {
         let work = &mut space[..9 * n];
         if self.job.is_adjoint() {
             let answer = apply_exp_omega4_la_adj_kernel(
-                n,
-                self.row_ptr,
-                self.col_idx,
-                self.vals1,
-                n,
-                self.row_ptr,
-                self.col_idx,
-                self.vals2,
-                tau,
-                bound,
-                root_bound,
-                checked,
-                a1,
-                a2,
-                self.src,
-                dst,
-                work,
+                first, second, tau, bound, root_bound, checked, a1, a2, self.src, dst, work,
             );
             return answer_text(answer, dst);
         }
         let answer = apply_exp_omega4_la_kernel(
-            n,
-            self.row_ptr,
-            self.col_idx,
-            self.vals1,
-            n,
-            self.row_ptr,
-            self.col_idx,
-            self.vals2,
-            tau,
-            bound,
-            root_bound,
-            checked,
-            a1,
-            a2,
-            self.src,
-            dst,
-            work,
+            first, second, tau, bound, root_bound, checked, a1, a2, self.src, dst, work,
         );
         answer_text(answer, dst)
     }
@@ -161,6 +122,8 @@ impl<'a> JobStep<'a> {
         ensures { let s = job_step6 (job_of self.now.job) in AnswerText (step6_answer s) (step6_output s) result }
     {
         let n = self.job.nodes();
+        let first = self.sample(self.vals1);
+        let second = self.sample(self.vals2);
         let tau = self.job.tau();
         let bound = self.job.bound();
         let checked = self.job.is_checked();
@@ -172,18 +135,9 @@ impl<'a> JobStep<'a> {
         let mut space = [0.0; 1408];
         let work = &mut space[..22 * n];
         let answer = apply_exp_omega6_kernel(
-            n,
-            self.row_ptr,
-            self.col_idx,
-            self.vals1,
-            n,
-            self.row_ptr,
-            self.col_idx,
-            self.vals2,
-            n,
-            self.row_ptr,
-            self.col_idx,
-            vals3,
+            first,
+            second,
+            self.sample(vals3),
             tau,
             bound,
             checked,

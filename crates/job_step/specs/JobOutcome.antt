@@ -12,7 +12,7 @@ use Rattle.job_format.specs.JobFormat.{Job, job_of, malformed_fault}
 
 module _ (job : Job) where
   -- a sample with these values; all samples have the job's pattern
-  abbrev with_values : List Float → Sample
+  abbrev pub with_values : List Float → Sample
   with_values vals = sample job.nodes job.starts job.cols vals
 
   -- the commutator's sign

@@ -2,10 +2,10 @@
 use Rattle.job_answer.specs.AnswerText.{AnswerText}
 use Rattle.job_answer.proofs.kernel.answer_text.Goals as goal
 
-pub returns-in-Accepted : goal.returns-in-Accepted
+pub returns-in-Ok : goal.returns-in-Ok
 unfolding AnswerText
-returns-in-Accepted c = rw c.in-Accepted.is c.done_text.ensures
+returns-in-Ok c = rw c.in-Ok.is c.done_text.ensures
 
-pub returns-in-Refused : goal.returns-in-Refused
+pub returns-in-Err : goal.returns-in-Err
 unfolding AnswerText
-returns-in-Refused c = rw c.in-Refused.is c.refused_text.ensures
+returns-in-Err c = rw c.in-Err.is c.refused_text.ensures

@@ -11,7 +11,7 @@ returns c =
     let step = c.args.self.now in
     let nodes = c.nodes-n.ensures.0 in
     step-written _
-    (step6-taken (job_of step.job) nodes step.fields
+    (step6-taken (job_of step.job) step.fields c.sample-first.ensures c.sample-second.ensures
     record {
       tau-is = c.tau-tau.ensures;
       bound-is = c.bound-bound.ensures;
@@ -21,6 +21,7 @@ returns c =
     }
     (output-zeros 64 nodes (omega (arith, step.small.nodes)))
     (work-zeros 22 (repeated-zeros 1408) (omega (arith, step.small.nodes)) nodes)
+    c.sample.ensures
     c.read_values.ensures
     c.apply_exp_omega6_kernel-answer.ensures)
     c.answer_text.ensures

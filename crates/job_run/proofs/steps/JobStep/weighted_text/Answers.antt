@@ -11,7 +11,7 @@ returns-then-is_adjoint c =
     let step = c.args.self.now in
     let nodes = c.nodes-n.ensures.0 in
     step-written _
-    (weighted-taken (job_of step.job) nodes step.fields
+    (weighted-taken (job_of step.job) step.fields c.sample-first.ensures c.sample-second.ensures
     record {
       tau-is = c.tau-tau.ensures;
       bound-is = c.bound-bound.ensures;
@@ -32,7 +32,7 @@ returns c =
     let step = c.args.self.now in
     let nodes = c.nodes-n.ensures.0 in
     step-written _
-    (weighted-taken (job_of step.job) nodes step.fields
+    (weighted-taken (job_of step.job) step.fields c.sample-first.ensures c.sample-second.ensures
     record {
       tau-is = c.tau-tau.ensures;
       bound-is = c.bound-bound.ensures;
