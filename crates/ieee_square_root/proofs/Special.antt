@@ -6,20 +6,21 @@ use native.Mathlib.Nat.{le_of_eq, le_of_lt, le_antisymm, le_of_suc-le-suc, lt_of
 use native.Mathlib.Omega.{arith}
 use lib.Dec.{eqb}
 use lib.Pow.{pow_pos}
-use lib.Ieee.{Float, nan, inf, fin, Format, binary64, prec, emax, low, up, hid, ones, top, odd, of_bits, of_fields, ne, neg}
+use lib.Ieee.{Float, nan, inf, fin, Format, binary64, prec, emax, low, up, hid, ones, top, odd, of_bits, of_fields, is_nan, neg}
 use lib.Ieee.Exact.{HasValue, odd_sign}
 use lib.Ieee.Fits.{down_pos}
 use borrow.Author.Tests.{le-leb, eq-eqb}
-use Rattle.rounding.proofs.Nan.{unequal-to-itself}
 use Rattle.ieee_square_root.specs.SquareRoot.{square_root}
 use Rattle.ieee_square_root.proofs.FromBits.{magnitude-positive, hid-pos, fields}
 
 -- ---- a NaN
 
--- what compares unequal to itself is a NaN, and is its own root
-pub nan-root : (f : Format) (x : Float) → ne x x ≡ true → x ≡ square_root f x
-unfolding square_root
-nan-root f x h = let n = unequal-to-itself x h in n ∙ ap (square_root f) (sym n)
+-- a NaN is its own root
+pub nan-root : (f : Format) (x : Float) → is_nan x ≡ true → x ≡ square_root f x
+unfolding is_nan square_root
+nan-root f nan h = refl
+nan-root f (inf s) h = absurd cc
+nan-root f (fin s m e) h = absurd cc
 
 -- ---- a negative value
 

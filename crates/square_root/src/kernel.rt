@@ -3,8 +3,8 @@ ghost use Rattle.std.specs.Prelude.{◌≡◌};
 ghost use Rattle.std.specs.Float.{binary64};
 ghost use Rattle.ieee_square_root.specs.SquareRoot.{square_root};
 
-use square_root_bits::kernel::{bits_or_zero, root_of_bits};
-use square_root_digits::kernel::{HIDDEN, SIGN};
+use square_root_bits::kernel::{PositiveFinite, bits_or_zero};
+use square_root_digits::kernel::{SIGN, Significand};
 
 // The bits of the infinity.
 const INFINITY: u64 = 0x7FF0_0000_0000_0000;
@@ -13,24 +13,18 @@ const INFINITY: u64 = 0x7FF0_0000_0000_0000;
 pub fn root_near(x: f64, guess: f64) -> f64
     ensures { result ≡ square_root binary64 x }
 {
-    if x != x {
+    if x.is_nan() {
         return x;
     }
-    let bits = f64::to_bits(x);
-    if bits == SIGN {
-        return -0.0;
+    match f64::to_bits(x) {
+        0 => 0.0,
+        bits @ 1..INFINITY => {
+            PositiveFinite { bits }.root(Significand::from_bits(bits_or_zero(guess)))
+        }
+        INFINITY..SIGN => x,
+        SIGN => -0.0,
+        _ => f64::NAN,
     }
-    if bits > SIGN {
-        return 0.0 / 0.0;
-    }
-    if bits == 0 {
-        return 0.0;
-    }
-    if bits >= INFINITY {
-        return x;
-    }
-    let digits = bits_or_zero(guess) % HIDDEN;
-    root_of_bits(bits, HIDDEN + digits)
 }
 
 // A value near 1 / √x, if x is above zero and not subnormal. Nothing is promised of it.

@@ -1,15 +1,12 @@
 -- The square of a root's digits, in parts of 26 digits, and the two tests that show them nearest. Assumes nothing.
 use mathlib.Core.Path.{◌≡◌, sym, ap, ◌∙◌}
 use Prim.Native.Nat.{ℕ, zero, suc, ◌+◌, ◌-◌, ◌*◌, ◌/◌, ◌%◌, ◌^◌, ◌≤◌, ◌<◌}
-use native.Mathlib.Nat.{le_trans, le_of_eq, le_of_lt, mul-le-mul, mul_assoc, suc-mul}
+use native.Mathlib.Nat.{le_trans, le_of_eq, mul_assoc, suc-mul}
 use native.Mathlib.Omega.{arith}
 use lib.Bits.{bit_and}
 use Rattle.ieee_square_root.specs.Steps.{RootDigits}
-use Rattle.ieee_square_root.proofs.Digits.{high_part, low_part, low-square, high-square, square-in-parts, parts-of, with-next}
+use Rattle.ieee_square_root.proofs.Digits.{square-in-parts, parts-of, with-next}
 use Rattle.square_root_digits_test.proofs.SignBit.{both-set}
-
-pub part-product : {a b : ℕ} → a ≤ 2 ^ 27 → b < 2 ^ 26 → a * b ≤ 2 ^ 53
-part-product h l = mul-le-mul h (le_of_lt l)
 
 -- r * r is high * 2 ^ 52 + low
 abbrev pub middle : ℕ → ℕ
@@ -20,12 +17,6 @@ low r = middle r % 67108864 * 67108864 + r % 67108864 * (r % 67108864)
 
 abbrev pub high : ℕ → ℕ
 high r = r / 67108864 * (r / 67108864) + middle r / 67108864
-
-pub low_small : (r : ℕ) → low r ≤ 2 ^ 53
-low_small r = omega (arith, low-square (low_part r))
-
-pub high_small : {r : ℕ} → r < 2 ^ 53 → high r ≤ 2 ^ 55
-high_small {r} h = let a = high_part (le_of_lt h) in omega (arith, high-square a, part-product a (low_part r))
 
 square-is : (r : ℕ) → r * r ≡ high r * 4503599627370496 + low r
 square-is r =

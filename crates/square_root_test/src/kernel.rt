@@ -5,7 +5,7 @@ ghost use Rattle.std.specs.Float.{binary64};
 ghost use Rattle.ieee_square_root.specs.SquareRoot.{square_root};
 
 use square_root_bits::kernel::bits_or_zero;
-use square_root_digits::kernel::{HIDDEN, SIGN};
+use square_root_digits::kernel::{HIDDEN, SIGN, Significand};
 use square_root_digits_test::kernel::digits_test;
 
 // Whether y is the square root of x, said by the sign bit of the result. It is clear too for an x that is not above zero, is subnormal or
@@ -15,13 +15,15 @@ pub fn root_test(x: f64, y: f64) -> u64
 {
     let bits = bits_or_zero(x);
     let field = bits / HIDDEN;
-    let significand = HIDDEN + bits % HIDDEN;
+    let significand = Significand::from_bits(bits).digits;
     // An odd exponent leaves a factor 2 for the digits. The exponent is the field less 1023.
     let odd = (field + 1) % 2;
     let radicand = significand + (significand & (SIGN - odd));
     let root = bits_or_zero(y);
-    let r = HIDDEN + root % HIDDEN;
     // Half of the rest is y's exponent.
     let half = SIGN - ((root / HIDDEN + odd) ^ (field / 2 + 512));
-    digits_test(radicand, r) & (SIGN + field - 1) & (SIGN + 2046 - field) & half
+    digits_test(radicand, Significand::from_bits(root))
+        & (SIGN + field - 1)
+        & (SIGN + 2046 - field)
+        & half
 }
