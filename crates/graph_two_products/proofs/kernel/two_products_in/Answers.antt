@@ -1,6 +1,5 @@
 -- `graph_two_products::kernel::two_products_in` meets its contract: where the patterns are the same, the second sample's values belong to the first
--- one's pattern; else one product is written after the other, apart from the source. That the patterns are the same is asked by value, so that
--- another test fails at what has to be shown. Assumes nothing.
+-- one's pattern; else one product is written after the other, apart from the source. Assumes nothing.
 use Rattle.std.proofs.Common.{sym}
 use Rattle.arithmetic.proofs.Tabulate.{length-tabulate}
 use Rattle.graph_rows.specs.Product.{product_of}
