@@ -1,5 +1,5 @@
 -- The answer of `segment_index`, from what its checks answered. Assumes nothing.
-use Rattle.std.proofs.Common.{◌≡◌, ℕ, sym, ap, ◌∙◌, arith, Result, Ok, Err}
+use Rattle.std.proofs.Common.{◌≡◌, ℕ, ap, ◌∙◌, arith, Result, Ok, Err}
 use Rattle.error.specs.declared.Refusal.{Refusal}
 use Rattle.error.specs.Answer.{Checked, Accepted, Refused}
 use Rattle.error.proofs.Left.{answers}

@@ -12,11 +12,14 @@ use graph_traj_checks::check::{check_run_lengths, check_signals};
 use graph_traj_parts::{Trajectory, check_adjoint_trajectory};
 use magnus_graph_checks::{check_bound, check_step_length};
 
+// The most steps that an adjoint run takes.
+const MOST_STEPS: usize = 65535;
+
 // Row 16 of an adjoint run: there are at most 65,535 steps.
 pub fn check_adjoint_step_count(steps: usize) -> Result<(), Refusal>
     ensures { result ≡ adjoint_step_count_fault steps }
 {
-    if steps > 65535 {
+    if steps > MOST_STEPS {
         Err(Refusal::StepCount(steps))
     } else {
         Ok(())

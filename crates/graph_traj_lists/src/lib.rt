@@ -9,12 +9,15 @@ ghost use Rattle.graph_traj_lists.specs.ListChecks.{laws_fault, lists_fault};
 
 use error::Refusal;
 
+// The last of the laws, of which the first is 0.
+const LAST_LAW: u8 = 2;
+
 // Row 19: every law is 0, 1 or 2. A law is a byte, the smallest number that holds them.
 pub fn check_laws(laws: &[u8]) -> Result<(), Refusal>
     ensures { result ≡ laws_fault laws.now }
 {
     for &law in laws {
-        if law > 2 {
+        if law > LAST_LAW {
             return Err(Refusal::Law(law as usize));
         }
     }

@@ -53,7 +53,8 @@ pub fn evolve_state_adjoint_into<'a>(
     };
     binary64_values(trajectory.starts);
     binary64_values(trajectory.ends);
-    if steps == 0 {
+    let no_steps = steps == 0;
+    if no_steps {
         store(src, 0, dst);
         return Ok(());
     }

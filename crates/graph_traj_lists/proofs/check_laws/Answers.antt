@@ -5,10 +5,10 @@ use Rattle.graph_checks.proofs.First.{passed-found, refuses-first, accepts-none}
 use Rattle.graph_traj_lists.specs.ListChecks.{laws_fault}
 use Rattle.graph_traj_lists.proofs.check_laws.Goals as goal
 
-pub returns-then-law-gt2 : goal.returns-then-law-gt2
+pub returns-then-law-gt-LAST_LAW : goal.returns-then-law-gt-LAST_LAW
 unfolding laws_fault
-returns-then-law-gt2 c =
-    refuses-first _ _ _ _ c.loop-law-test.true (passed-found c.loop-law.invariant (lt-ltb _ _ c.if-law-gt2.true))
+returns-then-law-gt-LAST_LAW c =
+    refuses-first _ _ _ _ c.loop-law-test.true (passed-found c.loop-law.invariant (lt-ltb _ _ c.if-law-gt-LAST_LAW.true))
 
 pub returns : goal.returns
 unfolding laws_fault

@@ -1,7 +1,7 @@
 -- `evolve_state_adjoint_into` meets its contract: it makes the checks of `adjoint_run_fault`; where they accept and there are steps, the
 -- signal is loaded into the work slice, the steps are taken there, what is held after the last is stored, and the needed part of the
 -- work slice is cleared. With no steps the signal is copied. Demand 3 follows from the definitions. Assumes nothing.
-use Rattle.std.proofs.Common.{ℕ, Bool, List, ◌≡◌, ◌<◌, sym, ap, ◌∙◌, arith}
+use Rattle.std.proofs.Common.{ℕ, Bool, List, ◌<◌, sym, ap, ◌∙◌, arith}
 use mathlib.Core.Path.{subst}
 use lib.Dec.{T}
 use lib.Ieee.{Float}
@@ -39,15 +39,15 @@ store-requires c =
     let ok = adjoint-accepted a.tau given c.check_adjoint_run-checked.ensures c.in-Ok.is in
     omega (arith, ok.signals.signal-length, ok.signals.output-length)
 
-pub returns-then-steps-eq0 : goal.returns-then-steps-eq0
-returns-then-steps-eq0 c =
+pub returns-then-no_steps : goal.returns-then-no_steps
+returns-then-no_steps c =
     let a = c.args in
     let given = lent a.trajectory a.steps a.rho_bar_max a.convergence_radius_check a.src.now a.dst.now a.work.now in
     let check = c.check_adjoint_run-checked.ensures in
     let yes = c.in-Ok.is in
     let lengths = adjoint-lengths a.tau given check yes in
     run-copied (adjoint_of a.tau given) check yes lengths (adjoint-plain a.tau given c.binary64_values.ensures c.binary64_values-2.ensures (subst T (sym c.well_formed.1.0.1) tt))
-    (adjoint-none a.steps c.if-steps-eq0.true)
+    (adjoint-none a.steps c.if-no_steps.true)
     (c.store.ensures
     ∙ ap (λ (n : ℕ). part 0 n a.src.now) (lengths.of_output ∙ sym lengths.of-signal)
     ∙ part-whole a.src.now)

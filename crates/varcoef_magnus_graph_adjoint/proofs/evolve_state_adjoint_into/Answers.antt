@@ -32,8 +32,8 @@ store-requires c =
     let ok = (weighted-adjoint-run-accepted _ _ _ _ _ _ _ _ _ _ _).0 (sym c.check_weighted_adjoint_run-checked.ensures ∙ c.in-Ok.is) in
     omega (arith, ok.signals.signal-length, ok.signals.output-length)
 
-pub returns-then-steps-eq0 : goal.returns-then-steps-eq0
-returns-then-steps-eq0 c =
+pub returns-then-no_steps : goal.returns-then-no_steps
+returns-then-no_steps c =
     let a = c.args in
     let t = trajectory_of a.trajectory in
     let run = weighted_adjoint_run t a.tau a.steps a.rho_bar_max a.a_sup_max a.convergence_radius_check a.a_starts.now a.a_ends.now
@@ -44,7 +44,7 @@ returns-then-steps-eq0 c =
     let plain = steps-plain t a.a_starts.now a.a_ends.now (adjoint_course a.tau a.steps) adjoint c.binary64_values.ensures
     c.binary64_values-2.ensures c.type_inv.a_starts c.type_inv.a_ends (λ s. subst T (sym c.well_formed.1.0.1) tt) in
     run-copied run c.check_weighted_adjoint_run-checked.ensures c.in-Ok.is lengths plain
-    (adjoint-none a.steps c.if-steps-eq0.true)
+    (adjoint-none a.steps c.if-no_steps.true)
     (c.store.ensures
     ∙ ap (λ (n : ℕ). part 0 n a.src.now) (ok.signals.output-length ∙ sym ok.signals.signal-length)
     ∙ part-whole a.src.now)
