@@ -20,10 +20,8 @@ pub fn root_test(x: f64, y: f64) -> u64
     let odd = (field + 1) % 2;
     let radicand = significand + (significand & (SIGN - odd));
     let root = bits_or_zero(y);
+    let r = Significand::from_bits(root);
     // Half of the rest is y's exponent.
     let half = SIGN - ((root / HIDDEN + odd) ^ (field / 2 + 512));
-    digits_test(radicand, Significand::from_bits(root))
-        & (SIGN + field - 1)
-        & (SIGN + 2046 - field)
-        & half
+    digits_test(radicand, r) & (SIGN + field - 1) & (SIGN + 2046 - field) & half
 }

@@ -1,20 +1,27 @@
--- The pairs of a value and its square root, and what is known where all pairs of two lists are such. Assumes nothing.
-use mathlib.Core.Path.{◌≡◌, refl, ap₂}
-use mathlib.Core.List.{List, [], ◌∷◌, map}
-use Prim.Native.Nat.{suc}
+-- The loop that tests every root of a vector, and what its answer tells. Assumes nothing.
+use mathlib.Core.Path.{◌≡◌, sym, ◌∙◌}
+use mathlib.Core.List.{List, map}
+use Prim.Native.Nat.{ℕ, ◌^◌, ◌≤◌, ◌<◌}
 use native.Mathlib.Omega.{arith}
-use lib.ListN.{length}
+use lib.ListN.{length, get_or, length-map, get_or-map}
+use lib.Seq.{ext_get_or}
 use lib.Ieee.{Float, binary64, nan}
-use Rattle.std.specs.List.{All, zip}
 use Rattle.ieee_square_root.specs.SquareRoot.{square_root}
 
--- the second of the pair is the square root of the first
-pub record IsRootPair (pair : Float × Float) : Type 0 where
-  pub root : pair.1 ≡ square_root binary64 pair.0
+-- where the sign bit of `passed` is set, the first i of ys are the square roots of the first i of xs
+pub record RootsBefore (xs ys : List Float) (i passed : ℕ) : Type 0 where
+  pub within : i ≤ length xs
+  pub roots : 2 ^ 63 ≤ passed → (j : ℕ) → j < i → get_or ys j nan ≡ square_root binary64 (get_or xs j nan)
 
-pub roots-of-pairs : (xs ys : List Float) → length ys ≡ length xs → All IsRootPair (zip xs ys) → ys ≡ map (square_root binary64) xs
-roots-of-pairs [] [] e all = refl
-roots-of-pairs [] (y ∷ ys) e all = absurd (omega arith)
-roots-of-pairs (x ∷ xs) [] e all = absurd (omega arith)
-roots-of-pairs (x ∷ xs) (y ∷ ys) e all =
-    ap₂ ◌∷◌ (all 0 (nan, nan) (omega arith)).root (roots-of-pairs xs ys (omega arith) (λ k d h. all (suc k) d (omega (arith, h))))
+module _ (xs ys : List Float) where
+  -- every place
+  pub roots-all : {i passed : ℕ}
+      → length ys ≡ length xs
+      → length xs ≤ i
+      → RootsBefore xs ys i passed
+      → 2 ^ 63 ≤ passed
+      → ys ≡ map (square_root binary64) xs
+  unfolding square_root
+  roots-all size last before set =
+      ext_get_or nan ys (map (square_root binary64) xs) (size ∙ sym (length-map xs (square_root binary64)))
+      (λ j h. before.roots set j (omega (arith, h, size, last)) ∙ sym (get_or-map (square_root binary64) xs j nan))

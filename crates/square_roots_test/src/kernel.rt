@@ -11,9 +11,10 @@ pub fn all_roots(src: &[f64], roots: &[f64]) -> bool
     requires { length roots.now ≡ length src.now }
     ensures { result ≡ true → roots.now ≡ map (square_root binary64) src.now }
 {
-    let passed = src
-        .iter()
-        .zip(roots.iter())
-        .fold(SIGN, |passed, (x, y)| passed & root_test(*x, *y));
+    let mut passed = SIGN;
+    // By `enumerate`, which compares once a turn: a `zip` of slices that the compiler does not know to be of one length compares twice.
+    for (i, x) in src.iter().enumerate() {
+        passed = passed & root_test(*x, roots[i]);
+    }
     passed >= SIGN
 }

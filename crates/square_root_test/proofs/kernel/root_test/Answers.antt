@@ -18,4 +18,4 @@ of-bits bits root {s} {r} of-x of-y q =
 pub returns : goal.returns
 returns c =
     passed c.bits_or_zero-bits.ensures c.bits_or_zero-root.ensures
-    (λ set. of-bits _ _ c.from_bits-significand.ensures c.from_bits.ensures (c.digits_test.ensures set))
+    (λ set. of-bits _ _ c.from_bits-significand.ensures c.from_bits-r.ensures (c.digits_test.ensures set))
