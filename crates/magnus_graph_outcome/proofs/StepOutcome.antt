@@ -13,7 +13,6 @@ use Rattle.error.specs.declared.Refusal.{Refusal}
 use Rattle.error.specs.Answer.{Checked}
 use Rattle.error.specs.Answer.{Accepted, Refused}
 use Rattle.error.proofs.Left.{answers, answers-accepted, left-unchanged, left-written}
-
 use Rattle.graph_rows.specs.RowProduct.{row_product64}
 use Rattle.magnus_plain_sum.specs.PlainSum.{plain_sum}
 use Rattle.magnus.specs.Coefficients.{reciprocal_factorial}

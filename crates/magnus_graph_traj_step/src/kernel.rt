@@ -36,7 +36,16 @@ fn sampled_step(
         factors.tau fraction1 fraction2 factors.sign result work.old work.new }
 {
     let m = pattern.col_idx.len();
-    sample(starts, ends, k, m, fraction1, fraction2, work, 7 * pattern.n)?;
+    sample(
+        starts,
+        ends,
+        k,
+        m,
+        fraction1,
+        fraction2,
+        work,
+        7 * pattern.n,
+    )?;
     sampled_taylor4(pattern, factors, work);
     Ok(())
 }

@@ -37,7 +37,12 @@ use varcoef_magnus_graph_traj_constant::kernel::ConstantWeightedOmega4;
 use varcoef_magnus_graph_traj_step::kernel::{SegmentLists, sampled_step};
 
 // The step that comes next in a segment of law 2, in an adjoint run of so many steps.
-fn sampled_step_at(lists: SegmentLists<'_>, segment: Segment, steps: usize, work: &mut [f64]) -> Result<(), Refusal>
+fn sampled_step_at(
+    lists: SegmentLists<'_>,
+    segment: Segment,
+    steps: usize,
+    work: &mut [f64],
+) -> Result<(), Refusal>
     requires room { 11 * lists.pattern.n + 2 * length lists.pattern.col_idx.now ≤ length work.old }
     requires step_lt_steps { (segment.step < steps) × (steps ≤ 65535) }
     ensures { let l = lists.entry in
@@ -60,7 +65,12 @@ fn sampled_step_at(lists: SegmentLists<'_>, segment: Segment, steps: usize, work
 }
 
 // All steps in a segment of law 2, the last first; the loop stops at the first step that refuses.
-fn sampled_steps(lists: SegmentLists<'_>, first: Segment, steps: usize, work: &mut [f64]) -> Result<(), Refusal>
+fn sampled_steps(
+    lists: SegmentLists<'_>,
+    first: Segment,
+    steps: usize,
+    work: &mut [f64],
+) -> Result<(), Refusal>
     requires room { 11 * lists.pattern.n + 2 * length lists.pattern.col_idx.now ≤ length work.old }
     requires step_value { (first.step ≡ 0) × (steps ≤ 65535) }
     ensures { let l = lists.entry in
@@ -111,7 +121,13 @@ fn load_roots(weights: &[f64], work: &mut [f64], at: usize)
 }
 
 // All steps in a segment of law 0 or 1: both samples have the values vals and the weights a, whose roots are taken once.
-fn constant_steps(sample: Sample<'_>, a: &[f64], tau: f64, steps: usize, work: &mut [f64]) -> Result<(), Refusal>
+fn constant_steps(
+    sample: Sample<'_>,
+    a: &[f64],
+    tau: f64,
+    steps: usize,
+    work: &mut [f64],
+) -> Result<(), Refusal>
     requires a_len { (length a.now ≡ sample.pattern.n) × (0 < steps) × (steps ≤ 65535) }
     requires room { 11 * sample.pattern.n + 2 * length sample.pattern.col_idx.now ≤ length work.old }
     ensures { let p = sample.entry.pattern in
