@@ -4,11 +4,10 @@ use mathlib.Core.Bool.{Bool, true, false, not}
 use Prim.Native.Nat.{ℕ, zero, suc, ◌+◌, ◌-◌, ◌*◌, ◌/◌, ◌%◌, ◌^◌, ◌≤◌, ◌<◌}
 use native.Mathlib.Nat.{lt_of_lt_of_le, mul_assoc, mul_comm, mul_left_comm}
 use native.Mathlib.Omega.{arith}
-use lib.Dec.{T, leb, leb→le, le→leb, nleb→lt, lit≤}
+use lib.Dec.{T, leb, leb→le, nleb→lt, lit≤}
 use lib.Ieee.{binary64}
 use lib.IntN.{ℤ, pos, negsuc, nat_abs, pos-ne-negsuc, sub_ℕ, ◌+ℤ◌, ◌-ℤ◌}
 use lib.Pow.{pow-add}
-use lib.Signed.{le_z}
 use mir.Syntax.{w64}
 use mir.Val.{SFits, of_z, to_z}
 use Rattle.ieee_square_root.specs.IntegerRoot.{four-pow}
@@ -30,13 +29,6 @@ placed (negsuc a) {p} h = by (leb (suc a) 1074) (leb→le (suc a) 1074) (nleb→
         left : 1074 - suc a ≡ p → suc a ≤ 1074 → p + suc a ≡ 1074
         left e h = omega arith
     by false y n = absurd (pos-ne-negsuc p (suc a - suc 1074) (sym h ∙ difference_below 1074 (suc a) (n tt)))
-
-pub least : {e : ℤ} {p : ℕ} → Placed e p → T (le_z (negsuc 1073) e)
-least (above h) = tt
-least (below {a} {p} h) = le→leb a 1073 (bound a p h)
-  where
-    bound : (a p : ℕ) → p + suc a ≡ 1074 → a ≤ 1073
-    bound a p h = omega arith
 
 pub exponent-fits : {e : ℤ} {p : ℕ} → p ≤ 2097 → Placed e p → SFits w64 e
 exponent-fits m (above h) = record { sfits = small (omega arith) }
