@@ -6,10 +6,10 @@ use graph_rows::kernel::{Pattern, Sample};
 
 // The row product alone, for a pattern that the caller has had checked.
 #[unsafe(no_mangle)]
-pub extern "C" fn bench_product(
-    row_ptr: &[usize],
-    col_idx: &[u32],
-    vals: &[f64],
+pub extern "C" fn bench_product<'a>(
+    row_ptr: &'a [usize],
+    col_idx: &'a [u32],
+    vals: &'a [f64],
     src: &[f64],
     dst: &mut [f64],
 )
