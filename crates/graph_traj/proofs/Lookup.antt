@@ -1,14 +1,17 @@
--- The segment in which a time lies is the one segment that holds it; and a search that halves keeps `Between`, from which it follows
--- which segment it ends at. Assumes nothing.
-use mathlib.Core.Path.{◌≡◌, refl, sym, ◌∙◌}
+-- The segment in which a time lies is the one segment that holds it, and the last that starts at that time or before it. Assumes nothing.
+use mathlib.Core.Path.{◌≡◌, refl, sym, ap, ◌∙◌}
 use mathlib.Core.Logic.{inl, inr, ⊎_elim}
 use mathlib.Core.Bool.{Bool, true, false, true≢false}
 use mathlib.Core.List.{List}
-use Prim.Native.Nat.{ℕ, zero, suc, ◌+◌, ◌≤◌, ◌<◌}
+use Prim.Native.Nat.{ℕ, zero, suc, ◌+◌, ◌-◌, ◌≤◌, ◌<◌}
 use native.Mathlib.Nat.{not-suc-le-zero, eq-or-lt_of_le, le_of_suc-le-suc}
 use native.Mathlib.Numerals.{add-one}
 use native.Mathlib.Omega.{arith}
-use lib.Ieee.{Float, lt, le}
+use lib.ListN.{length, take, get_or}
+use lib.Seq.{length-take-le, get_or-take}
+use lib.Ieee.{Float, lt, le, nan}
+use Rattle.std.specs.List.Sorted.{IsPartitionPoint, IsPartitionedBy}
+use Rattle.std.proofs.lemmas.List.{get_or_default}
 use Rattle.graph_traj.specs.Greatest.{IsGreatest, greatest-is, greatest-only}
 use Rattle.graph_traj_breakpoints.specs.Breakpoints.{breakpoint, Breakpoints, Inside}
 use Rattle.graph_traj.specs.Lookup.{segment_at, Holds}
@@ -30,19 +33,25 @@ module _ {segments : ℕ} {breakpoints : List Float} (rising : Breakpoints segme
       (eq-or-lt_of_le (le_of_suc-le-suc l))
 
   module _ (t : Float) where
-    -- where a breakpoint is not at most t, no later one is
+    -- where a breakpoint is at most t, every earlier one is
+    pub earlier-at-most : (i j : ℕ)
+        → i ≤ j
+        → j ≤ segments
+        → le (breakpoint breakpoints j) t ≡ true
+        → le (breakpoint breakpoints i) t ≡ true
+    earlier-at-most i j l m h =
+        ⊎_elim (λ (same : i ≡ j). rw same h)
+        (λ (less : i < j). less-at-most _ _ (less-then-at-most _ _ _ (rises i j less m) h))
+        (eq-or-lt_of_le l)
+
+    -- where one is not, no later one is
     pub later-above : (i j : ℕ)
         → i ≤ j
         → j ≤ segments
         → le (breakpoint breakpoints i) t ≡ false
         → le (breakpoint breakpoints j) t ≡ false
-    later-above i j l m h = fails (le (breakpoint breakpoints j) t) (λ k. true≢false (sym (earlier k) ∙ h))
-      where
-        earlier : le (breakpoint breakpoints j) t ≡ true → le (breakpoint breakpoints i) t ≡ true
-        earlier k =
-            ⊎_elim (λ (same : i ≡ j). rw same k)
-            (λ (less : i < j). less-at-most _ _ (less-then-at-most _ _ _ (rises i j less m) k))
-            (eq-or-lt_of_le l)
+    later-above i j l m h =
+        fails (le (breakpoint breakpoints j) t) (λ k. true≢false (sym (earlier-at-most i j l m k) ∙ h))
 
     -- ---- the segment that holds t
 
@@ -84,54 +93,44 @@ module _ {segments : ℕ} {breakpoints : List Float} (rising : Breakpoints segme
 
 -- ---- the search
 
--- t lies from breakpoint lo on, and no segment from hi on begins at t or before it
-pub record Between (segments : ℕ) (breakpoints : List Float) (t : Float) (lo hi : ℕ) : Type 0 where
-  pub apart : lo < hi
-  pub within : hi ≤ segments
-  pub low : le (breakpoint breakpoints lo) t ≡ true
-  pub high : (j : ℕ) → hi ≤ j → j < segments → le (breakpoint breakpoints j) t ≡ false
+module _ {segments : ℕ} {breakpoints : List Float} (t : Float) (rising : Breakpoints segments breakpoints) where
+  abbrev starts : List Float
+  starts = take segments breakpoints
 
-module _ {segments : ℕ} {breakpoints : List Float} {t : Float} where
-  -- it begins
-  pub between-all : Breakpoints segments breakpoints → Inside segments breakpoints t → Between segments breakpoints t 0 segments
-  between-all rising inside =
-      record {
-        apart = rising.some-segments;
-        within = omega arith;
-        low = inside.from_first;
-        high = λ j l m. absurd (omega arith);
-      }
+  count : length starts ≡ segments
+  count = length-take-le segments breakpoints (omega (arith, rising.count))
 
-  module _ {lo hi : ℕ} (between : Between segments breakpoints t lo hi) where
-    -- the middle breakpoint is at most t
-    pub between-later : (mid : ℕ)
-        → mid < hi
-        → le (breakpoint breakpoints mid) t ≡ true
-        → Between segments breakpoints t mid hi
-    between-later mid l h = record { apart = l; within = between.within; low = h; high = between.high }
+  -- whether a segment starts at t or before it
+  tested : (i : ℕ) (d : Float) → i < segments → le (get_or starts i d) t ≡ le (breakpoint breakpoints i) t
+  tested i d l =
+      ap (λ x. le x t) (get_or_default starts i d nan (omega (arith, count, l)) ∙ get_or-take segments breakpoints i nan l)
 
-    -- it is above t
-    pub between-earlier : Breakpoints segments breakpoints
-        → (mid : ℕ)
-        → lo < mid
-        → mid < hi
-        → le (breakpoint breakpoints mid) t ≡ false
-        → Between segments breakpoints t lo mid
-    between-earlier rising mid l m h =
-        record {
-          apart = l;
-          within = omega (arith, between.within);
-          low = between.low;
-          high = λ j later below. later-above rising t mid j later (omega arith) h;
-        }
+  -- no segment that does comes after one that does not
+  pub starts-parted : IsPartitionedBy (λ x. le x t) starts
+  starts-parted i j d l m h =
+      let a-segment : j < segments = omega (arith, count, m) in
+      tested i d (omega arith) ∙ earlier-at-most rising t i j l (omega arith) (sym (tested j d a-segment) ∙ h)
 
-    -- there is nothing between
-    pub between-found : hi ≤ lo + 1 → lo ≡ segment_at segments breakpoints t
+  module _ (inside : Inside segments breakpoints t) {r : ℕ} (bound : r ≤ length starts)
+      (point : IsPartitionPoint (λ x. le x t ≡ true) (λ x. le x t ≡ false) starts r) where
+    -- segment 0 does
+    pub some-start : 1 ≤ r
+    some-start =
+        let none : r ≤ 0 → ⊥ = λ z.
+        true≢false
+        (sym inside.from_first
+        ∙ sym (tested 0 nan rising.some-segments)
+        ∙ point.1 0 nan z (omega (arith, count, rising.some-segments))) in
+        omega arith
+
+    -- the last that does is the one in which t lies
+    pub last-start : r - 1 ≡ segment_at segments breakpoints t
     unfolding segment_at
-    between-found l =
+    last-start =
+        let within : r - 1 < segments = omega (arith, bound, count, some-start) in
         greatest-only
         (record {
-          within = omega (arith, between.within, between.apart);
-          found = between.low;
-          none = λ j later below. between.high j (omega (arith, between.apart)) below;
+          within = within;
+          found = sym (tested (r - 1) nan within) ∙ point.0 (r - 1) nan (omega arith) (omega (arith, some-start));
+          none = λ j later below. sym (tested j nan below) ∙ point.1 j nan (omega arith) (omega (arith, count));
         })

@@ -21,6 +21,7 @@ impl Segment {
     pub const SQRT3_OVER_12_F64: f64 = 0.144_337_567_297_406_433;
 
     // The segment of a forward run, before its first step: tau is (end - start)/steps.
+    #[tactic(auto, unfolding(crate::specs::Times::segment_tau))]
     pub fn new(start: f64, end: f64, steps: usize) -> Self
         requires { steps ≤ 65535 }
         ensures { result ≡ segment_of start end steps }
@@ -46,6 +47,7 @@ impl Segment {
     }
 
     // Where the step starts in a forward run: start + step * tau.
+    #[tactic(auto, unfolding(crate::specs::Times::step_start))]
     pub fn step_start(self) -> f64
         requires { self.step ≤ 65535 }
         ensures { result ≡ step_start self.start self.tau self.step }
@@ -54,6 +56,7 @@ impl Segment {
     }
 
     // Where the step starts in an adjoint run of so many steps: (steps - 1 - step) * tau.
+    #[tactic(auto, unfolding(crate::specs::Times::adjoint_step_start))]
     pub fn adjoint_step_start(self, steps: usize) -> f64
         requires { (self.step < steps) × (steps ≤ 65535) }
         ensures { result ≡ adjoint_step_start self.tau steps self.step }
@@ -62,6 +65,7 @@ impl Segment {
     }
 
     // Where the first sample of a step lies that starts at t_start.
+    #[tactic(auto, unfolding(crate::specs::Times::sample_time))]
     pub fn first_sample(self, t_start: f64) -> f64
         ensures { result ≡ sample_time t_start c1 self.tau }
     {
@@ -69,6 +73,7 @@ impl Segment {
     }
 
     // Where its second sample lies.
+    #[tactic(auto, unfolding(crate::specs::Times::sample_time))]
     pub fn second_sample(self, t_start: f64) -> f64
         ensures { result ≡ sample_time t_start c2 self.tau }
     {
@@ -76,6 +81,7 @@ impl Segment {
     }
 
     // How far t is on its way from the segment's start to its end, for law 2.
+    #[tactic(auto, unfolding(crate::specs::Times::fraction))]
     pub fn fraction(self, t: f64) -> f64
         ensures { result ≡ fraction t self.start self.end }
     {

@@ -4,13 +4,11 @@ use mathlib.Core.Path.{◌≡◌, sym, ap, ◌∙◌, subst}
 use mathlib.Core.Bool.{Bool, true, false, not, cond}
 use Prim.Native.Nat.{ℕ, ◌^◌, ◌<◌}
 use lib.Dec.{T, eqb}
-use lib.Ieee.{Float, nan, binary64, of_bits, to_bits, nan_bits, is_nan, ne, fits}
+use lib.Ieee.{Float, binary64, of_bits, to_bits, nan_bits, is_nan, ne, fits}
 use lib.Ieee.Bits.{of_bits-to_bits, to_bits-of_bits, nan_bits_is}
-use borrow.Author.Rules.{rules}
 use borrow.Author.Tests.{eqb-true, eq-eqb}
 use Rattle.rounding.proofs.Nan.{unequal-to-itself, equal-to-itself, nan_pattern, pattern-of-nan}
-use Rattle.float_bits.proofs.has_bits.Statement.{statement}
-use Rattle.float_bits.proofs.has_bits.Tie as tie
+use Rattle.float_bits.proofs.has_bits.Goals as goal
 
 module _ (x : Float) (b : ℕ) where
   abbrev Matches : Bool → Type 0
@@ -35,32 +33,15 @@ module _ (x : Float) (b : ℕ) where
         (ap (to_bits binary64) p ∙ to_bits-of_bits binary64 b l (subst (λ (t : Bool). T (not t)) (sym n ∙ nan_bits_is binary64 b) tt))),
   )
 
-is-nan-pattern-requires : tie.Need-is_nan_pattern-requires
-is-nan-pattern-requires c κs = search rules
+pub returns-then-x : goal.returns-then-x
+returns-then-x c = nan-matches _ _ c.if-x.true _ c.is_nan_pattern.ensures
 
-returns : tie.Need-returns-then-x
-returns c = nan-matches _ _ c.if-x.true _ c.is_nan_pattern.ensures
+pub returns-then-is_nan_pattern : goal.returns-then-is_nan_pattern
+returns-then-is_nan_pattern c = number-differs _ _ c.if-x.false (sym c.is_nan_pattern-2.ensures ∙ c.if-is_nan_pattern.true)
 
-is-nan-pattern-requires-2 : tie.Need-is_nan_pattern-requires-2
-is-nan-pattern-requires-2 c κs = search rules
+pub float_to_bits-result : goal.float_to_bits-result
+float_to_bits-result c = equal-to-itself _ c.if-x.false
 
-returns-2 : tie.Need-returns-then-is_nan_pattern
-returns-2 c = number-differs _ _ c.if-x.false (sym c.is_nan_pattern-2.ensures ∙ c.if-is_nan_pattern.true)
-
-float-to-bits-result : tie.Need-float_to_bits-result
-float-to-bits-result c = equal-to-itself _ c.if-x.false
-
-returns-3 : tie.Need-returns
-returns-3 c =
+pub returns : goal.returns
+returns c =
     number-matches _ _ (subst T (sym c.well_formed.0.1) tt) c.ranges.bits.fits (sym c.is_nan_pattern-2.ensures ∙ c.if-is_nan_pattern.false)
-
-pub has_bits_spec : {M : Type 1} → statement M
-has_bits_spec =
-    tie.close
-    (tie.spec
-    is-nan-pattern-requires
-    returns
-    is-nan-pattern-requires-2
-    returns-2
-    float-to-bits-result
-    returns-3)
