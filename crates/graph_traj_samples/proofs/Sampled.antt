@@ -1,32 +1,31 @@
 -- The laws of two samples that lie as pairs: the values of each, and that a test of values, as row 20 for a sample's values and row 11 for
 -- its weights, refuses neither where every number of the pairs passes. Assumes nothing.
-use mathlib.Core.Path.{◌≡◌, refl, sym, ap, ◌∙◌}
+use mathlib.Core.Path.{◌≡◌, refl, sym, ap, ◌∙◌, subst}
 use mathlib.Core.Bool.{Bool, true, false, ◌&&◌, and_assoc}
 use mathlib.Core.List.{List}
-use Prim.Native.Nat.{ℕ, ◌+◌, ◌*◌, ◌≤◌, ◌<◌}
+use Prim.Native.Nat.{ℕ, ◌+◌, ◌-◌, ◌*◌, ◌≤◌, ◌<◌}
 use native.Mathlib.Omega.{arith}
-use lib.ListN.{length, get_or, take, set}
+use lib.ListN.{length, get_or, take, drop}
 use lib.Ieee.{Float, nan, binary64}
 use Rattle.float.specs.All.{all, all-is}
-use Rattle.float.proofs.All.{all-of-none, all_more, all-passed}
+use Rattle.float.proofs.All.{all_more, all-passed}
 use Rattle.arithmetic.specs.Vector.{tabulate}
 use Rattle.arithmetic.specs.Arithmetic.{ieee, at}
 use Rattle.arithmetic.proofs.Tabulate.{length-tabulate, get_d_tabulate}
 use Rattle.scratch.specs.Parts.{part, put}
-use Rattle.scratch.proofs.Parts.{get_d_part}
-use Rattle.scratch.proofs.Writing.{Written, written_none, written_all}
-use Rattle.error.specs.Checks.{next}
+use Rattle.scratch.proofs.Parts.{length_part}
+use Rattle.error.specs.Checks.{next, refuse_if}
 use Rattle.error.specs.declared.Refusal.{Refusal}
 use Rattle.error.specs.Answer.{Checked}
 use Rattle.error.specs.Answer.{Accepted, Refused}
-use Rattle.error.proofs.Checks.{accepted-then}
+use Rattle.error.proofs.Checks.{accepted-then, refuse_if-accepted, refuse_if-refused}
 use Rattle.graph_checks.specs.First.{refuse_first}
 use Rattle.graph_checks.proofs.First.{Passed, passed-more, passed-found, refuses-first, accepts-none}
 use Rattle.graph_pairs.specs.Pairs.{alternate, pairs, firsts, seconds}
-use Rattle.graph_pairs.proofs.Pairs.{pair-written, alternate-first, alternate-second, first-of-pair, second-of-pair}
+use Rattle.graph_pairs.proofs.Pairs.{alternate-first, alternate-second, first-of-pair, second-of-pair}
 use Rattle.graph_pairs.proofs.Pairs.{firsts-of-pairs, seconds-of-pairs}
 use Rattle.graph_traj_laws.specs.Laws.{law_value, law_values}
-use Rattle.graph_traj_samples.specs.Sampled.{law_pairs}
+use Rattle.graph_traj_samples.specs.Sampled.{sampled_fault, law_pairs}
 
 -- ---- a test of the values of one sample, and the refusal of the first that it refuses
 
@@ -44,14 +43,18 @@ module _ (bad : Float → Bool) (refusal : Float → Refusal) where
   -- a walk over the values of one sample
   module _ (values : List Float) {i : ℕ} (passed : Passed (λ k. bad (get_or values k nan)) (length values) i) where
     -- the value at place i is refused
-    pub refused-at : (x : Float) → i < length values → x ≡ get_or values i nan → bad x ≡ true → Refused (refusal x) ≡ first_fault values
-    refused-at x l e h =
-        ap (λ y. Refused (refusal y)) e ∙ refuses-first _ _ _ i l (passed-found passed (ap bad (sym e) ∙ h))
+    pub refused-at : (x : Float) (r : Refusal) → i < length values → x ≡ get_or values i nan → Refused r ≡ refuse_if (bad x) (refusal x)
+        → Refused r ≡ first_fault values
+    refused-at x r l e h =
+        let found = (refuse_if-refused (bad x) (refusal x) r).0 (sym h) in
+        ap Refused (sym found.1)
+        ∙ ap (λ y. Refused (refusal y)) e
+        ∙ refuses-first _ _ _ i l (passed-found passed (ap bad (sym e) ∙ found.0))
 
     -- it is not, and the walk goes on
-    pub passed-at : (x : Float) → i < length values → x ≡ get_or values i nan → bad x ≡ false
+    pub passed-at : (x : Float) → i < length values → x ≡ get_or values i nan → Accepted ≡ refuse_if (bad x) (refusal x)
         → Passed (λ k. bad (get_or values k nan)) (length values) (i + 1)
-    passed-at x l e h = passed-more passed l (ap bad (sym e) ∙ h)
+    passed-at x l e h = passed-more passed l (ap bad (sym e) ∙ (refuse_if-accepted (bad x) (refusal x)).0 (sym h))
 
     -- there is no value left
     pub none_left : length values ≤ i → Accepted ≡ first_fault values
@@ -62,17 +65,6 @@ pub get_or-values : (m : ℕ) (f : Float) (s e : List Float) (i : ℕ) → i < m
     → get_or (law_values m f s e) i nan ≡ law_value f (at (ieee binary64) s i) (at (ieee binary64) e i)
 unfolding law_values
 get_or-values m f s e i l = get_d_tabulate _ m i nan l
-
--- at place i of segment k, from the elements of the pools
-module _ (k m : ℕ) (f : Float) (starts ends : List Float) (i : ℕ) (l : i < m) {x : Float}
-    (e : x ≡ law_value f (get_or starts (k * m + i) nan) (get_or ends (k * m + i) nan)) where
-  pub value-is : let A = ieee binary64 in
-      x ≡ law_value f (at A (part (k * m) m starts) i) (at A (part (k * m) m ends) i)
-  value-is = e
-      ∙ (λ j. law_value f (sym (get_d_part (k * m) m starts i nan l) j) (sym (get_d_part (k * m) m ends i nan l) j))
-
-  pub value-at : x ≡ get_or (law_values m f (part (k * m) m starts) (part (k * m) m ends)) i nan
-  value-at = value-is ∙ sym (get_or-values m f (part (k * m) m starts) (part (k * m) m ends) i l)
 
 pub length-values : (m : ℕ) (f : Float) (s e : List Float) → length (law_values m f s e) ≡ m
 unfolding law_values
@@ -118,36 +110,44 @@ module _ (bad : Float → Bool) (refusal : Float → Refusal) (good : Float → 
       enough _ (ap good (sym (number (2 * i + 1) nan (omega arith) ∙ alternate-second one two i)) ∙ each (2 * i + 1) (omega arith))) in
       accepted-then Accepted Accepted _ _ first refl second
 
--- a walk that writes both samples as pairs and tests them: one and two are the values of the first sample and of the second
-module _ (good : Float → Bool) (one two : ℕ → Float) (m target : ℕ) (w₀ : List Float) where
-  -- after i turns the work slice is w, and what was written passes or not
-  pub record Sampling (i : ℕ) (passed : Bool) (w : List Float) : Type 0 where
-    pub written : Written target (alternate one two) (2 * m) w₀ (2 * i) w
-    pub so_far : passed ≡ all good (take (2 * i) (pairs m one two))
+-- what `sample` answers and writes, of two lists of m values
+abbrev pub SampledTo : Checked → Float → Float → ℕ → List Float → List Float → ℕ → List Float → List Float → Type 0
+SampledTo answer f1 f2 target before after m s e =
+    (answer ≡ next (sampled_fault (law_values m f1 s e)) (sampled_fault (law_values m f2 s e)))
+    × (after ≡ put target (law_pairs m f1 f2 s e) before)
 
-  pub sampling-none : Sampling 0 true w₀
-  sampling-none = record { written = written_none target (alternate one two) (2 * m) w₀; so_far = all-of-none good }
+-- what holds of the two slices that lie from k·m up to k·m + m holds of segment k's lists
+pub in-segment : (P : ℕ → List Float → List Float → Type 0) (k m : ℕ) (starts ends : List Float)
+    → k * m + m ≤ length starts
+    → (let slice = λ (pool : List Float). take (k * m + m - k * m) (drop (k * m) pool) in P (length (slice starts)) (slice starts) (slice ends))
+    → P m (part (k * m) m starts) (part (k * m) m ends)
+in-segment P k m starts ends h p =
+    let slice = λ (n : ℕ) (pool : List Float). take n (drop (k * m) pool) in
+    let size : k * m + m - k * m ≡ m = omega arith in
+    subst (λ n. P n (part (k * m) m starts) (part (k * m) m ends)) (length_part (k * m) m starts h)
+    (subst (λ n. P (length (slice n starts)) (slice n starts) (slice n ends)) size p)
 
-  module _ {i : ℕ} {passed : Bool} {w : List Float} (before : Sampling i passed w) where
-    pub sampling-next : i < m → {x y : Float} {t : Bool} → x ≡ one i → y ≡ two i → t ≡ (good x && good y)
-        → Sampling (i + 1) (passed && t) (set (set w (target + 2 * i) x) (target + 2 * i + 1) y)
-    sampling-next turn {x} {y} {t} is_one is-two tested =
+-- a walk that tests both samples' values, one and two, as pairs: after i turns `passed` is whether the first i pairs' numbers are good
+module _ (good : Float → Bool) (one two : ℕ → Float) (m : ℕ) where
+  abbrev pub SoFar : ℕ → Bool → Type 0
+  SoFar i passed = passed ≡ all good (take (2 * i) (pairs m one two))
+
+  module _ {i : ℕ} {passed : Bool} (before : SoFar i passed) where
+    pub so-far-next : i < m → {x y : Float} {t : Bool} → x ≡ one i → y ≡ two i → t ≡ (good x && good y) → SoFar (i + 1) (passed && t)
+    so-far-next turn {x} {y} {t} is_one is-two tested =
         let size : length (pairs m one two) ≡ 2 * m = length-tabulate (alternate one two) (2 * m) in
         let first = first-of-pair (ieee binary64) m one two i turn in
         let second = second-of-pair (ieee binary64) m one two i turn in
         let next : 2 * i + 1 + 1 ≡ 2 * (i + 1) = omega arith in
-        record {
-          written = pair-written one two before.written turn _ _ x y refl (omega arith) is_one is-two;
-          so_far = ap (λ (b : Bool). passed && b) tested
-              ∙ sym (and_assoc passed (good x) (good y))
-              ∙ all_more good (pairs m one two) nan (2 * i + 1) (passed && good x) (good y) (omega arith)
-              (all_more good (pairs m one two) nan (2 * i) passed (good x) (omega arith) before.so_far (ap good (is_one ∙ sym first)))
-              (ap good (is-two ∙ sym second))
-              ∙ ap (λ (k : ℕ). all good (take k (pairs m one two))) next;
-        }
+        ap (λ (b : Bool). passed && b) tested
+        ∙ sym (and_assoc passed (good x) (good y))
+        ∙ all_more good (pairs m one two) nan (2 * i + 1) (passed && good x) (good y) (omega arith)
+        (all_more good (pairs m one two) nan (2 * i) passed (good x) (omega arith) before (ap good (is_one ∙ sym first)))
+        (ap good (is-two ∙ sym second))
+        ∙ ap (λ (k : ℕ). all good (take k (pairs m one two))) next
 
     -- all turns
-    pub sampling-all : m ≤ i → (passed ≡ all good (pairs m one two)) × (w ≡ put target (pairs m one two) w₀)
-    sampling-all last =
+    pub so-far-all : m ≤ i → passed ≡ all good (pairs m one two)
+    so-far-all last =
         let size : length (pairs m one two) ≡ 2 * m = length-tabulate (alternate one two) (2 * m) in
-        (all-passed good (pairs m one two) (2 * i) passed (omega arith) before.so_far, written_all before.written (omega arith) refl)
+        all-passed good (pairs m one two) (2 * i) passed (omega arith) before
