@@ -1,3 +1,3 @@
 -- How a walk finds the first place at which a test holds, as the crates above name it. Assumes nothing.
-pub use Rattle.graph_shape.proofs.First.{Passed, passed_none, passed-more, passed-found, passed-all, first_past, none-before-past}
-pub use Rattle.graph_shape.proofs.First.{none-fails, some-fails, refuses-first, accepts-none, refuse_first-accepted}
+pub use Rattle.graph_shape.proofs.First.{Passed, passed_none, passed-more, passed-found, passed-all, find_first-some, find_first-none, first_past, none-before-past, found-first}
+pub use Rattle.graph_shape.proofs.First.{none-fails, refuses-first, accepts-none, refuses-found, accepts-not-found, refuse_first-accepted}

@@ -2,11 +2,12 @@
 // whether there is a fault; the walk to the first fault is made where there is one.
 ghost use Rattle.std.specs.Prelude.{◌≡◌, ◌≤◌, ltb, length};
 ghost use Rattle.float.specs.All.{all};
-ghost use Rattle.graph_shape.specs.First.{first};
+ghost use Rattle.graph_shape.specs.First.{find_first};
 ghost use Rattle.graph_shape.specs.Rows.{Rows};
 ghost use Rattle.graph_columns.specs.ColumnChecks.{outside_at, column_fault};
 
 use error::Refusal;
+use graph_shape::kernel::first_entry;
 
 // Whether every column is a node, by one walk over all of them.
 fn columns_inside(n: usize, col_idx: &[u32]) -> bool
@@ -21,23 +22,12 @@ fn columns_inside(n: usize, col_idx: &[u32]) -> bool
     passed
 }
 
-// The first entry whose column is no node, or the number of entries. The walk goes over the n + 1 row starts, and at
-// each over the entries up to it, so that it meets those before the first row start too.
-fn first_column_outside(n: usize, row_ptr: &[usize], col_idx: &[u32]) -> usize
+// The first entry whose column is no node.
+fn first_column_outside(n: usize, row_ptr: &[usize], col_idx: &[u32]) -> Option<usize>
     requires { Rows n row_ptr.now (length col_idx.now) }
-    ensures { result ≡ first (outside_at n col_idx.now) (length col_idx.now) }
+    ensures { result ≡ find_first (outside_at n col_idx.now) (length col_idx.now) }
 {
-    let mut k = 0;
-    'rows: for i in 0..n + 1 {
-        let end = row_ptr[i];
-        while k < end {
-            if col_idx[k] as usize >= n {
-                break 'rows;
-            }
-            k += 1;
-        }
-    }
-    k
+    first_entry(n, row_ptr, |k| col_idx[k] as usize >= n)
 }
 
 // Row 4: every column is below n.
@@ -48,6 +38,8 @@ pub fn check_columns(n: usize, row_ptr: &[usize], col_idx: &[u32]) -> Result<(),
     if columns_inside(n, col_idx) {
         return Ok(());
     }
-    let k = first_column_outside(n, row_ptr, col_idx);
-    Err(Refusal::Column(col_idx[k] as usize))
+    match first_column_outside(n, row_ptr, col_idx) {
+        None => Ok(()),
+        Some(k) => Err(Refusal::Column(col_idx[k] as usize)),
+    }
 }

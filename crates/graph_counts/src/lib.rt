@@ -8,14 +8,19 @@ use error::Refusal;
 
 pub mod kernel;
 
+// The most nodes and the most columns that a Laplacian may have.
+const MOST_NODES: usize = 4096;
+
+const MOST_COLUMNS: usize = 65535;
+
 // Row 6: n is at most 4,096, and the columns are at most 65,535.
 pub fn check_size(n: usize, columns: usize) -> Result<(), Refusal>
     ensures { result ≡ size_fault n columns }
 {
-    if n > 4096 {
+    if n > MOST_NODES {
         return Err(Refusal::Size(n));
     }
-    if columns > 65535 {
+    if columns > MOST_COLUMNS {
         return Err(Refusal::Size(columns));
     }
     Ok(())

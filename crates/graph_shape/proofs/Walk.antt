@@ -1,7 +1,8 @@
 -- The walk over the n + 1 row starts, and at each over the entries from the last start (at first 0) up to this one, which
--- the two searches for a first fault make. As it turns to start i, the entries below the start before it are passed; so
+-- the searches for a first fault make. As it turns to start i, the entries below the start before it are passed; so
 -- it stays within the entries, and in the end has passed them all. Assumes nothing.
-use Rattle.std.proofs.Common.{◌≡◌, ℕ, suc, ◌+◌, ◌<◌, ◌≤◌, List, ◌∷◌, get_or, add-one, arith}
+use Rattle.std.proofs.Common.{◌≡◌, ℕ, suc, ◌+◌, ◌<◌, ◌≤◌, List, ◌∷◌, get_or, add-one, arith, length, take, length-take}
+use lib.Seq.{get_or-take}
 use Rattle.graph_shape.specs.Rows.{Rows}
 
 -- the walk turns to start i, and its next entry is k: the entries below the start before start i, or below 0, are passed
@@ -27,3 +28,24 @@ module _ {n : ℕ} {starts : List ℕ} {entries : ℕ} (rows : Rows n starts ent
       let e : i ≡ suc n = omega arith in
       let g : get_or starts n 0 ≤ k = rw e at h.passed in
       omega (arith, rows.last)
+
+-- ---- the same, where the walk goes over the first n + 1 row starts as a list of their own
+
+-- start i of the list is start i
+taken : (n : ℕ) (starts : List ℕ) (i : ℕ) → i < length (take (n + 1) starts)
+    → (i < n + 1) × (get_or (take (n + 1) starts) i 0 ≡ get_or starts i 0)
+taken n starts i l =
+    let m : i < n + 1 = omega (arith, length-take (n + 1) starts) in
+    (m, get_or-take (n + 1) starts i 0 m)
+
+pub reached-taken : (n : ℕ) {starts : List ℕ} {i k : ℕ} → i < length (take (n + 1) starts)
+    → get_or (take (n + 1) starts) i 0 ≤ k
+    → Reached starts (i + 1) k
+reached-taken n {starts} {i} l h = reached-more i (rw (taken n starts i l).1 at h)
+
+module _ {n : ℕ} {starts : List ℕ} {entries : ℕ} (rows : Rows n starts entries) where
+  pub stored-taken : {i k : ℕ} → i < length (take (n + 1) starts) → k < get_or (take (n + 1) starts) i 0 → k < entries
+  stored-taken {i} l h = let t = taken n starts i l in stored rows t.0 (rw t.1 at h)
+
+  pub taken-all : {i k : ℕ} → i ≤ n + 1 → length (take (n + 1) starts) ≤ i → Reached starts i k → entries ≤ k
+  taken-all {i} l m h = reached-all rows l (omega (arith, m, length-take (n + 1) starts, rows.count)) h

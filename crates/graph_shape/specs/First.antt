@@ -1,5 +1,5 @@
--- The first place at which a test holds, and the refusal that names it. Assumes nothing.
-use Rattle.std.specs.Prelude.{◌≡◌, ℕ, zero, suc, ◌<◌, ◌≤◌, Bool, true, false, cond, nat_lt, refl}
+-- The first place at which a test holds, the answer of a search for it, and the refusal that names it. Assumes nothing.
+use Rattle.std.specs.Prelude.{◌≡◌, ℕ, zero, suc, ◌<◌, ◌≤◌, Bool, true, false, cond, nat_lt, refl, Option, Some, None}
 use Rattle.std.proofs.Common.{sym, ◌∙◌, true≢false, not-suc-le-zero, le_of_suc-le-suc, arith}
 use Rattle.std.proofs.Math.Nat.{suc-le-suc_iff}
 use Rattle.error.specs.Checks.{refuse_if}
@@ -10,6 +10,14 @@ use Rattle.error.specs.Answer.{Checked}
 unfoldable pub first : (ℕ → Bool) → ℕ → ℕ
 first p zero = zero
 first p (suc n) = cond (p zero) zero (suc (first (λ i. p (suc i)) n))
+
+-- the answer of a search: the first place below n at which the test holds; None where there is none
+unfoldable pub find_first : (ℕ → Bool) → ℕ → Option ℕ
+find_first p n = cond (nat_lt (first p n) n) (Some (first p n)) None
+
+-- a closure, of which post says what its calls return, makes the test p at each place below n
+abbrev pub Tests : (ℕ → Bool → Type 0) → (ℕ → Bool) → ℕ → Type 0
+Tests post p n = (k : ℕ) (r : Bool) → k < n → post k r → r ≡ p k
 
 -- the refusal of the first place below n at which the test holds; Accepted where there is none
 unfoldable pub refuse_first : (ℕ → Bool) → ℕ → (ℕ → Refusal) → Checked

@@ -8,6 +8,8 @@ use error::Refusal;
 use graph_counts::kernel::check_row_start_count;
 use graph_counts::{check_entry_count, check_size};
 
+pub mod kernel;
+
 // Rows 6, 1, 2 and, of the columns, 3.
 pub fn check_shape(n: usize, row_ptr: &[usize], columns: usize) -> Result<(), Refusal>
     ensures { result ≡ shape_fault n row_ptr.now columns }
@@ -24,12 +26,13 @@ fn row_starts_rise(n: usize, row_ptr: &[usize]) -> bool
     requires { length row_ptr.now ≡ n + 1 }
     ensures { result ≡ true → Rise n row_ptr.now }
 {
-    let mut joined = 0;
-    for i in 0..n {
-        let start = row_ptr[i];
-        let distance = std::num::wrapping_sub_usize(row_ptr[i + 1], start);
-        joined = joined | start | distance;
-    }
+    let joined = row_ptr[..n]
+        .iter()
+        .zip(row_ptr[1..].iter())
+        .fold(0, |joined, (start, next)| {
+            let distance = std::num::wrapping_sub_usize(*next, *start);
+            joined | *start | distance
+        });
     joined < 0x8000_0000_0000_0000
 }
 
@@ -41,8 +44,8 @@ fn check_row_starts(n: usize, row_ptr: &[usize]) -> Result<(), Refusal>
     if row_starts_rise(n, row_ptr) {
         return Ok(());
     }
-    for i in 0..n {
-        if row_ptr[i] > row_ptr[i + 1] {
+    for (i, &start) in row_ptr[..n].iter().enumerate() {
+        if start > row_ptr[i + 1] {
             return Err(Refusal::RowStartFalls(i));
         }
     }

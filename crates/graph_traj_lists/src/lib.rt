@@ -3,7 +3,7 @@
 #![tactic(auto)]
 
 ghost use Rattle.std.specs.Prelude.{◌≡◌, length};
-ghost use Rattle.graph_checks.specs.First.{first};
+ghost use Rattle.graph_checks.specs.First.{find_first};
 ghost use Rattle.graph_checks.specs.PatternChecks.{not_finite_at, value_fault};
 ghost use Rattle.graph_traj_lists.specs.ListChecks.{laws_fault, lists_fault};
 
@@ -24,16 +24,16 @@ pub fn check_laws(laws: &[u8]) -> Result<(), Refusal>
     Ok(())
 }
 
-// The first place whose value is not finite, or the number of values.
-pub fn first_not_finite(values: &[f64]) -> usize
-    ensures { result ≡ first (not_finite_at values.now) (length values.now) }
+// The first place whose value is not finite.
+pub fn first_not_finite(values: &[f64]) -> Option<usize>
+    ensures { result ≡ find_first (not_finite_at values.now) (length values.now) }
 {
     for (k, value) in values.iter().enumerate() {
         if !float::is_finite(*value) {
-            return k;
+            return Some(k);
         }
     }
-    values.len()
+    None
 }
 
 // Row 5, of one pool: every value is finite. An accepted pool costs one walk that only finds out whether there is a fault.
@@ -43,8 +43,10 @@ pub fn check_pool(values: &[f64]) -> Result<(), Refusal>
     if float::all_finite(values) {
         return Ok(());
     }
-    let k = first_not_finite(values);
-    Err(Refusal::Value(values[k]))
+    match first_not_finite(values) {
+        None => Ok(()),
+        Some(k) => Err(Refusal::Value(values[k])),
+    }
 }
 
 // Row 19, then row 5 for all start lists and for all end lists.

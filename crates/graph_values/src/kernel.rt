@@ -1,28 +1,19 @@
 // The check of the values, for callers that have checked the row starts. Accepted values cost one walk that only finds out
 // whether there is a fault; the walk to the first fault is made where there is one.
 ghost use Rattle.std.specs.Prelude.{◌≡◌, length};
-ghost use Rattle.graph_shape.specs.First.{first};
+ghost use Rattle.graph_shape.specs.First.{find_first};
 ghost use Rattle.graph_shape.specs.Rows.{Rows};
 ghost use Rattle.graph_values.specs.ValueChecks.{not_finite_at, value_fault};
 
 use error::Refusal;
+use graph_shape::kernel::first_entry;
 
-// The first entry whose value is not finite, or the number of entries, by the walk that finds the first such column.
-fn first_value_not_finite(n: usize, row_ptr: &[usize], vals: &[f64]) -> usize
+// The first entry whose value is not finite.
+fn first_value_not_finite(n: usize, row_ptr: &[usize], vals: &[f64]) -> Option<usize>
     requires { Rows n row_ptr.now (length vals.now) }
-    ensures { result ≡ first (not_finite_at vals.now) (length vals.now) }
+    ensures { result ≡ find_first (not_finite_at vals.now) (length vals.now) }
 {
-    let mut k = 0;
-    'rows: for i in 0..n + 1 {
-        let end = row_ptr[i];
-        while k < end {
-            if !float::is_finite(vals[k]) {
-                break 'rows;
-            }
-            k += 1;
-        }
-    }
-    k
+    first_entry(n, row_ptr, |k| !float::is_finite(vals[k]))
 }
 
 // Row 5: every value is finite.
@@ -33,6 +24,8 @@ pub fn check_values(n: usize, row_ptr: &[usize], vals: &[f64]) -> Result<(), Ref
     if float::all_finite(vals) {
         return Ok(());
     }
-    let k = first_value_not_finite(n, row_ptr, vals);
-    Err(Refusal::Value(vals[k]))
+    match first_value_not_finite(n, row_ptr, vals) {
+        None => Ok(()),
+        Some(k) => Err(Refusal::Value(vals[k])),
+    }
 }
