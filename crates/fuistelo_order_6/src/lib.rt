@@ -1,5 +1,6 @@
 // For programs in C and Rust: the step of order 6. It makes one call and gives back its answer as a
 // struct; a slice is a pointer and a length to such a program. include/fuistelo.h declares it.
+// The C interface needs each list as a parameter of its own, and a function written out for each name.
 #![tactic(auto)]
 
 ghost use Rattle.magnus_graph_faults.specs.StepChecks.{sample};

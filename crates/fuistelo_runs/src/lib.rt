@@ -1,5 +1,6 @@
 // For programs in C and Rust: the runs along a trajectory. Each function makes one call and gives back its
 // answer as a struct; a slice is a pointer and a length to such a program. include/fuistelo.h declares the functions.
+// The C interface needs each list as a parameter of its own, and a function written out for each name.
 #![tactic(auto)]
 
 ghost use Rattle.graph_traj_parts.specs.Trajectory.{trajectory};
