@@ -25,6 +25,7 @@ pub fn gershgorin(row_ptr: &[usize], vals: &[f64]) -> f64
 {
     let n = row_ptr.len() - 1;
     let mut max_sum = 0.0;
+    // By number, which is what a row's sum is named by.
     for i in 0..n {
         let row_sum = row_absolute_sum(row_ptr, vals, i);
         if row_sum > max_sum {

@@ -44,6 +44,7 @@ fn check_row_starts(n: usize, row_ptr: &[usize]) -> Result<(), Refusal>
     if row_starts_rise(n, row_ptr) {
         return Ok(());
     }
+    // The next start by its place: what a loop over `windows(2).enumerate()` yields is out of an invariant's reach.
     for (i, &start) in row_ptr[..n].iter().enumerate() {
         if start > row_ptr[i + 1] {
             return Err(Refusal::RowStartFalls(i));

@@ -28,12 +28,7 @@ pub fn check_laws(laws: &[u8]) -> Result<(), Refusal>
 pub fn first_not_finite(values: &[f64]) -> Option<usize>
     ensures { result ≡ find_first (not_finite_at values.now) (length values.now) }
 {
-    for (k, value) in values.iter().enumerate() {
-        if !float::is_finite(*value) {
-            return Some(k);
-        }
-    }
-    None
+    values.iter().position(|value| !float::is_finite(*value))
 }
 
 // Row 5, of one pool: every value is finite. An accepted pool costs one walk that only finds out whether there is a fault.
