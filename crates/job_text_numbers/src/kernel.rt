@@ -35,9 +35,10 @@ impl Text {
         }
     }
 
-    // The bytes.
+    // The bytes, which are never more than there is room for.
     pub fn as_bytes(&self) -> &[u8]
-        ensures { result.now ≡ self.now }
+        ensures bytes { result.now ≡ self.now }
+        ensures upper_bound { length result.now ≤ TEXT }
     {
         self.bytes.as_slice()
     }

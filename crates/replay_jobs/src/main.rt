@@ -3,7 +3,6 @@
 #![tactic(auto)]
 
 use job_run::run_job;
-use job_text::TEXT;
 use replay::replay;
 use replay_answers::texts::are_alike;
 use replay_fields::{Fault, Fields};
@@ -16,9 +15,7 @@ fn is_right(kind: u16, fields: &mut Fields<'_>) -> Result<bool, Fault> {
     }
     let job = fields.byte_slice()?;
     let expected = fields.byte_slice()?;
-    let mut text = [0; TEXT];
-    let length = run_job(job, &mut text);
-    Ok(are_alike(&text[..length], expected))
+    Ok(are_alike(run_job(job).as_bytes(), expected))
 }
 
 fn main(rt: HostRuntime) -> io::Result<()> {
