@@ -7,5 +7,6 @@ pub record Head (bytes : List ℕ) (map nodes entries : ℕ) : Type 0 where
   pub map-is : map ≡ job_map bytes
   pub nodes-is : nodes ≡ job_nodes bytes
   pub entries-is : entries ≡ job_entries bytes
+  pub map-fits : map < 65536
   pub nodes-fit : nodes < 65536
   pub entries-fit : entries < 65536

@@ -54,8 +54,9 @@ impl<'a> Job<'a> {
         self.bytes.len()
     }
 
+    // Which fields it has.
     pub fn map(&self) -> Map
-        ensures { result.bits ≡ job_map self.now }
+        ensures { (result.bits ≡ job_map self.now) × (result.bits < 65536) }
     {
         self.map
     }

@@ -80,6 +80,7 @@ fn read_list<T: Element>(bytes: &[u8], at: usize, target: &mut [T])
 }
 
 impl<'a> Job<'a> {
+    // The row starts.
     #[tactic(auto, unfolding(crate::specs::JobFormat::job_row_starts, crate::specs::JobFormat::words16))]
     pub fn read_row_starts(&self, target: &mut [usize])
         requires { length target.old ≡ job_nodes self.now + 1 }
@@ -120,6 +121,7 @@ impl<'a> Job<'a> {
         read_list(self.bytes, at + 8 * self.nodes(), second);
     }
 
+    // The signal.
     #[tactic(auto, unfolding(crate::specs::JobFormat::job_signal, crate::specs::JobFormat::reals))]
     pub fn read_signal(&self, target: &mut [f64])
         requires { length target.old ≡ job_nodes self.now }

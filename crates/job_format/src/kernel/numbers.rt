@@ -6,6 +6,7 @@ use super::{Job, real_at};
 use job_checks::Field;
 
 impl<'a> Job<'a> {
+    // τ.
     #[tactic(auto, unfolding(crate::specs::JobFormat::job_tau))]
     pub fn tau(&self) -> f64
         ensures { result ≡ job_tau self.now }
@@ -24,6 +25,7 @@ impl<'a> Job<'a> {
         1.0
     }
 
+    // The root bound, before the weights.
     #[tactic(auto, unfolding(crate::specs::JobFormat::job_root_bound))]
     pub fn root_bound(&self) -> f64
         ensures { result ≡ job_root_bound self.now }
