@@ -1,18 +1,18 @@
--- The laws behind `is_finite` and `both_finite`: the difference x - x equals zero exactly when x is finite, and two such differences equal each
--- other exactly when both values are. Assumes nothing.
+-- The laws behind `is_finite` and `both_finite`: the library's test is that of the contracts, and of two values the differences from themselves equal
+-- each other exactly when both are finite. Assumes nothing.
 use mathlib.Core.Path.{◌≡◌, refl, ap, ap₂}
 use mathlib.Core.Bool.{true, false, ◌&&◌}
 use lib.Ieee.{Float, nan, inf, fin, binary64, sub, eq, of_bits}
 use lib.Ieee.Scale.{finite}
+use Rattle.std.specs.Float.{float_is_finite}
 use Rattle.rounding.proofs.Zeros.{sub-self-zero}
 
-pub finite-by-difference : (x : Float) → eq (sub binary64 x x) (of_bits binary64 0) ≡ finite x
-unfolding eq sub of_bits
-finite-by-difference nan = refl
-finite-by-difference (inf true) = refl
-finite-by-difference (inf false) = refl
-finite-by-difference (fin s m e) =
-    ap (λ (z : Float). eq z (of_bits binary64 0)) (sub-self-zero binary64 (fin s m e) tt)
+-- the library's test
+pub library-finite : (x : Float) → float_is_finite x ≡ finite x
+unfolding float_is_finite
+library-finite nan = refl
+library-finite (inf s) = refl
+library-finite (fin s m e) = refl
 
 pub finite-by-two-differences : (x y : Float) → eq (sub binary64 x x) (sub binary64 y y) ≡ (finite x && finite y)
 unfolding eq sub of_bits

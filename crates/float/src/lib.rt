@@ -5,11 +5,11 @@ ghost use Rattle.std.specs.Prelude.{◌≡◌, ◌&&◌};
 ghost use Rattle.std.specs.Float.Ieee.Scale.{finite};
 ghost use Rattle.float.specs.All.{all};
 
-// Whether x is neither an infinity nor a NaN: the difference x - x is +0 for a finite x, and NaN for any other.
+// Whether x is neither an infinity nor a NaN.
 pub fn is_finite(x: f64) -> bool
     ensures { result ≡ finite x }
 {
-    x - x == 0.0
+    x.is_finite()
 }
 
 // Whether x and y are both finite, by one comparison: of a finite value the difference from itself is +0, and of any other a NaN, which equals

@@ -27,7 +27,7 @@ pub fn from_bits(bits: u64) -> f64
 pub fn has_bits(x: f64, bits: u64) -> bool
     ensures { (result ≡ true → x ≡ of_bits binary64 bits) × (x ≡ of_bits binary64 bits → result ≡ true) }
 {
-    if x != x {
+    if x.is_nan() {
         return is_nan_pattern(bits);
     }
     if is_nan_pattern(bits) {

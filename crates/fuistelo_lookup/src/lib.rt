@@ -13,7 +13,7 @@ use answer::{Answer, laid_out, refused};
 use graph_traj::segment_index;
 use refusal_rows::Row;
 
-// The segment in which t lies: where it is accepted, its one count.
+// The segment in which t lies: where it is accepted, its one count, after the number 0, which stands for "accepted" in the C interface.
 #[unsafe(no_mangle)]
 pub extern "C" fn fuistelo_segment_index(segments: usize, breakpoints: &[f64], t: f64) -> Answer
     ensures { result ≡ struct_of (lookup_fault segments breakpoints.now t)

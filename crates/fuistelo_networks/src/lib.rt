@@ -41,7 +41,7 @@ pub extern "C" fn fuistelo_check_pattern(n: usize, row_ptr: &[usize], col_idx: &
     checked(check_pattern(n, row_ptr, col_idx))
 }
 
-// The Gershgorin bound: where it is accepted, its one real.
+// The Gershgorin bound: where it is accepted, its one real, after the number 0, which stands for "accepted" in the C interface.
 #[unsafe(no_mangle)]
 pub extern "C" fn fuistelo_gershgorin_bound_csr(
     n: usize,

@@ -9,7 +9,7 @@ ghost use Rattle.answer.specs.Struct.{Tells};
 
 use answer::{Answer, checked};
 use graph_checks::CsrParts;
-use magnus6_graph::apply_exp_omega6_kernel;
+use magnus6_graph::{SpectralBound, apply_exp_omega6_kernel};
 
 // The step of order 6.
 #[unsafe(no_mangle)]
@@ -58,15 +58,9 @@ pub extern "C" fn fuistelo_apply_exp_omega6_kernel(
         col_idx: col_idx3,
         vals: vals3,
     };
-    checked(apply_exp_omega6_kernel(
-        first,
-        second,
-        third,
-        tau,
+    let bound = SpectralBound {
         rho_bar_max,
         convergence_radius_check,
-        src,
-        dst,
-        work,
-    ))
+    };
+    checked(apply_exp_omega6_kernel(first, second, third, tau, bound, src, dst, work))
 }

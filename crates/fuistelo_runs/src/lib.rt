@@ -9,7 +9,7 @@ ghost use Rattle.answer.specs.Struct.{Tells};
 
 use answer::{Answer, checked};
 use graph_traj_parts::Trajectory;
-use magnus_graph_traj::{evolve_state_adjoint_into, evolve_with_traj_into};
+use magnus_graph_traj::{SpectralBound, evolve_state_adjoint_into, evolve_with_traj_into};
 
 // The forward run.
 #[unsafe(no_mangle)]
@@ -46,8 +46,10 @@ pub extern "C" fn fuistelo_evolve_with_traj_into<'a>(
             laws,
         },
         steps,
-        rho_bar_max,
-        convergence_radius_check,
+        SpectralBound {
+            rho_bar_max,
+            convergence_radius_check,
+        },
         src,
         dst,
         work,
@@ -91,8 +93,10 @@ pub extern "C" fn fuistelo_evolve_state_adjoint_into<'a>(
         },
         tau,
         steps,
-        rho_bar_max,
-        convergence_radius_check,
+        SpectralBound {
+            rho_bar_max,
+            convergence_radius_check,
+        },
         src,
         dst,
         work,

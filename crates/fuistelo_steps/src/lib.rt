@@ -9,7 +9,7 @@ ghost use Rattle.answer.specs.Struct.{Tells};
 
 use answer::{Answer, checked};
 use graph_checks::CsrParts;
-use magnus_graph::{apply_exp_omega4_adj_kernel, apply_exp_omega4_kernel};
+use magnus_graph::{SpectralBound, apply_exp_omega4_adj_kernel, apply_exp_omega4_kernel};
 
 // The forward step of order 4.
 #[unsafe(no_mangle)]
@@ -47,16 +47,11 @@ pub extern "C" fn fuistelo_apply_exp_omega4_kernel(
         col_idx: col_idx2,
         vals: vals2,
     };
-    checked(apply_exp_omega4_kernel(
-        first,
-        second,
-        tau,
+    let bound = SpectralBound {
         rho_bar_max,
         convergence_radius_check,
-        src,
-        dst,
-        work,
-    ))
+    };
+    checked(apply_exp_omega4_kernel(first, second, tau, bound, src, dst, work))
 }
 
 // The adjoint step of order 4.
@@ -95,14 +90,9 @@ pub extern "C" fn fuistelo_apply_exp_omega4_adj_kernel(
         col_idx: col_idx2,
         vals: vals2,
     };
-    checked(apply_exp_omega4_adj_kernel(
-        first,
-        second,
-        tau,
+    let bound = SpectralBound {
         rho_bar_max,
         convergence_radius_check,
-        src,
-        dst,
-        work,
-    ))
+    };
+    checked(apply_exp_omega4_adj_kernel(first, second, tau, bound, src, dst, work))
 }

@@ -10,7 +10,7 @@ ghost use Rattle.answer.specs.Struct.{Tells};
 
 use answer::{Answer, checked};
 use graph_traj_parts::Trajectory;
-use varcoef_magnus_graph_adjoint::evolve_state_adjoint_into;
+use varcoef_magnus_graph_adjoint::{NodeWeights, SpectralBound, evolve_state_adjoint_into};
 
 // The adjoint run with node weights.
 #[unsafe(no_mangle)]
@@ -53,11 +53,15 @@ pub extern "C" fn fuistelo_varcoef_evolve_state_adjoint_into<'a>(
         },
         tau,
         steps,
-        rho_bar_max,
-        a_sup_max,
-        convergence_radius_check,
-        a_starts,
-        a_ends,
+        SpectralBound {
+            rho_bar_max,
+            convergence_radius_check,
+        },
+        NodeWeights {
+            a_sup_max,
+            first: a_starts,
+            second: a_ends,
+        },
         src,
         dst,
         work,

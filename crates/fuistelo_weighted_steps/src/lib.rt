@@ -10,7 +10,9 @@ ghost use Rattle.answer.specs.Struct.{Tells};
 
 use answer::{Answer, checked};
 use graph_checks::CsrParts;
-use varcoef_magnus_graph::{apply_exp_omega4_la_adj_kernel, apply_exp_omega4_la_kernel};
+use varcoef_magnus_graph::{
+    NodeWeights, SpectralBound, apply_exp_omega4_la_adj_kernel, apply_exp_omega4_la_kernel,
+};
 
 // The forward weighted step.
 #[unsafe(no_mangle)]
@@ -52,19 +54,16 @@ pub extern "C" fn fuistelo_apply_exp_omega4_la_kernel(
         col_idx: col_idx2,
         vals: vals2,
     };
-    checked(apply_exp_omega4_la_kernel(
-        first,
-        second,
-        tau,
+    let bound = SpectralBound {
         rho_bar_max,
-        a_sup_max,
         convergence_radius_check,
-        a1,
-        a2,
-        src,
-        dst,
-        work,
-    ))
+    };
+    let weights = NodeWeights {
+        a_sup_max,
+        first: a1,
+        second: a2,
+    };
+    checked(apply_exp_omega4_la_kernel(first, second, tau, bound, weights, src, dst, work))
 }
 
 // The adjoint weighted step.
@@ -107,17 +106,14 @@ pub extern "C" fn fuistelo_apply_exp_omega4_la_adj_kernel(
         col_idx: col_idx2,
         vals: vals2,
     };
-    checked(apply_exp_omega4_la_adj_kernel(
-        first,
-        second,
-        tau,
+    let bound = SpectralBound {
         rho_bar_max,
-        a_sup_max,
         convergence_radius_check,
-        a1,
-        a2,
-        src,
-        dst,
-        work,
-    ))
+    };
+    let weights = NodeWeights {
+        a_sup_max,
+        first: a1,
+        second: a2,
+    };
+    checked(apply_exp_omega4_la_adj_kernel(first, second, tau, bound, weights, src, dst, work))
 }

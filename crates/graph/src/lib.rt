@@ -14,6 +14,7 @@ use error::{Refusal, check_length};
 // the checks and what they are made of, callable from here too
 pub use graph_checks::{CsrParts, check_pattern, from_csr_parts};
 use graph_rows::kernel::Sample;
+use graph_shape::kernel::{Entries, RowStarts};
 
 // The Gershgorin bound of a Laplacian, ρ̄ = max over the rows of Σ |value|, rounded as the Rust rounds it. Refused as
 // `from_csr_parts` refuses.
@@ -22,7 +23,14 @@ pub fn gershgorin_bound_csr(parts: CsrParts<'_>) -> Result<f64, Refusal>
         (gershgorin_bound binary64 parts.entry.row_ptr.now parts.entry.vals.now) }
 {
     from_csr_parts(parts)?;
-    Ok(graph_bound::kernel::gershgorin(parts.row_ptr, parts.vals))
+    let row_starts = RowStarts {
+        n: parts.n,
+        row_ptr: parts.row_ptr,
+    };
+    Ok(graph_bound::kernel::gershgorin(Entries {
+        row_starts,
+        list: parts.vals,
+    }))
 }
 
 // dst becomes the product of the Laplacian with src: row i starts at +0 and adds value · src[column] in stored order.

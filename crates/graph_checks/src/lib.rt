@@ -10,6 +10,7 @@ use error::Refusal;
 use graph_columns::kernel::check_columns;
 use graph_counts::check_entry_count;
 use graph_shape::check_shape;
+use graph_shape::kernel::{Entries, RowStarts};
 use graph_values::kernel::check_values;
 
 // The parts of a Laplacian as a caller lends them: n, the row starts, the columns and the values. Nothing of them has been checked.
@@ -27,9 +28,19 @@ pub fn from_csr_parts(parts: CsrParts<'_>) -> Result<(), Refusal>
     ensures { Answers result (parts_fault parts.entry) }
 {
     check_shape(parts.n, parts.row_ptr, parts.col_idx.len())?;
-    check_entry_count(parts.vals.len(), parts.row_ptr[parts.n])?;
-    check_columns(parts.n, parts.row_ptr, parts.col_idx)?;
-    check_values(parts.n, parts.row_ptr, parts.vals)
+    let row_starts = RowStarts {
+        n: parts.n,
+        row_ptr: parts.row_ptr,
+    };
+    check_entry_count(parts.vals.len(), row_starts.row_ptr[row_starts.n])?;
+    check_columns(Entries {
+        row_starts,
+        list: parts.col_idx,
+    })?;
+    check_values(Entries {
+        row_starts,
+        list: parts.vals,
+    })
 }
 
 // The same of a pattern, which has no values: rows 6 and 1 to 4, row 3 for the columns alone.
@@ -37,5 +48,9 @@ pub fn check_pattern(n: usize, row_ptr: &[usize], col_idx: &[u32]) -> Result<(),
     ensures { Answers result (pattern_fault n row_ptr.now col_idx.now) }
 {
     check_shape(n, row_ptr, col_idx.len())?;
-    check_columns(n, row_ptr, col_idx)
+    let row_starts = RowStarts { n, row_ptr };
+    check_columns(Entries {
+        row_starts,
+        list: col_idx,
+    })
 }

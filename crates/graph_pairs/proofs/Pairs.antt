@@ -7,10 +7,11 @@ use native.Mathlib.Omega.{arith}
 use lib.ListN.{length, get_or, set}
 use Rattle.arithmetic.specs.Vector.{tabulate}
 use Rattle.arithmetic.specs.Arithmetic.{Arithmetic, at}
-use Rattle.arithmetic.proofs.Tabulate.{tabulate-same}
+use Rattle.arithmetic.proofs.Tabulate.{length-tabulate, tabulate-same}
 use Rattle.arithmetic.specs.Product.{entries}
 use Rattle.arithmetic.proofs.Product.{at-tabulate, entries_next}
-use Rattle.scratch.proofs.Writing.{Written, written_next}
+use Rattle.scratch.proofs.Parts.{put_whole}
+use Rattle.scratch.proofs.Writing.{Written, written_next, written_all}
 use Rattle.graph_checks.specs.Pattern.{Pattern}
 use Rattle.graph_rows.proofs.RowEntries.{entry-stored, entry-column}
 use Rattle.magnus_graph_helpers.proofs.Terms.{omega4_sum_at}
@@ -52,6 +53,24 @@ module _ {K : Type 0} where
       let second = written_next first (omega arith) l y q (d ∙ sym (alternate-second f g i)) in
       let twice : 2 *ℕ i +ℕ 1 +ℕ 1 ≡ 2 *ℕ (i +ℕ 1) = omega arith in
       rw twice at second
+
+  -- after the last turn of a loop that writes a whole list of n elements, and of n pairs
+  pub list-written : {f : ℕ → K} {n : ℕ} {w₀ w : List K} {i : ℕ}
+      → length w₀ ≡ n
+      → Written 0 f n w₀ i w
+      → n ≤ i
+      → {v : List K}
+      → tabulate f n ≡ v
+      → w ≡ v
+  list-written {f} {n} {w₀} size written last e =
+      written_all written last e ∙ put_whole _ w₀ (ap length (sym e) ∙ length-tabulate f n ∙ sym size)
+
+  pub pairs-written : (f g : ℕ → K) {n : ℕ} {w₀ w : List K} {i : ℕ}
+      → length w₀ ≡ 2 *ℕ n
+      → Written 0 (alternate f g) (2 *ℕ n) w₀ (2 *ℕ i) w
+      → n ≤ i
+      → w ≡ pairs n f g
+  pairs-written f g size written last = list-written size written (omega arith) refl
 
 module _ {K : Type 0} (A : Arithmetic K) where
   open A use {◌+◌, ◌-◌, ◌*◌}

@@ -1,19 +1,12 @@
 -- Where the entries of a row are stored, from what is known of the row starts: what a walk over a row asks. Assumes
 -- nothing.
-use mathlib.Core.Path.{◌≡◌, subst}
 use mathlib.Core.List.{List}
-use Prim.Native.Nat.{ℕ, ◌+◌, ◌-◌, ◌<◌}
+use Prim.Native.Nat.{ℕ, ◌+◌, ◌<◌}
 use native.Mathlib.Omega.{arith}
-use lib.ListN.{length, get_or}
+use lib.ListN.{get_or}
 use Rattle.graph_checks.specs.Pattern.{Rows, Pattern}
 
 module _ {n m : ℕ} {starts : List ℕ} (rows : Rows n starts m) where
-  -- the rows are one fewer than the row starts
-  pub rows-by-starts : Rows (length starts - 1) starts m
-  rows-by-starts =
-      let e : n ≡ length starts - 1 = omega (arith, rows.count) in
-      subst (λ (k : ℕ). Rows k starts m) e rows
-
   -- an entry before the end of row i is stored
   pub entry-stored : (i k : ℕ) → i < n → k < get_or starts (i + 1) 0 → k < m
   entry-stored i k l h = omega (arith, rows.within (i + 1) (omega arith))

@@ -52,6 +52,8 @@ impl<'a> Sample<'a> {
         ensures { result ≡ row_sum_of self.entry src.now i }
     {
         let mut acc = 0.0;
+        // By entry: over a `zip` of the row's values and columns a product with its checks takes 2 to 3 parts in 100 longer, and a fifth longer for
+        // 4,096 rows of 3 to 7 entries in irregular columns.
         for k in self.pattern.row_ptr[i]..self.pattern.row_ptr[i + 1] {
             let c = self.pattern.col_idx[k] as usize;
             acc = acc + self.vals[k] * src[c];
@@ -59,7 +61,9 @@ impl<'a> Sample<'a> {
         acc
     }
 
-    // out becomes the product with src (`apply_into_slice` of the Rust). A turn does two rows.
+    // out becomes the product with src (`apply_into_slice` of the Rust), as a call of its own, so that its loops have all registers. A turn does two
+    // rows: one row a turn, over `out.iter_mut()`, takes up to a quarter longer, and longer than Eigen's product.
+    #[inline(never)]
     pub fn product(self, src: &[f64], out: &mut [f64])
         requires src_len { length src.now ≡ self.pattern.n }
         requires out_len { length out.old ≡ self.pattern.n }

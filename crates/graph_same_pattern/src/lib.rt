@@ -4,7 +4,8 @@
 
 ghost use Rattle.std.specs.Prelude.{◌≡◌, ◌↔◌, true};
 
-// Whether two patterns are the same: their row starts, and their columns.
+// Whether two patterns are the same: their row starts, and their columns. Any four lists may be compared: a `Pattern` of graph_rows in place of two of
+// them would ask more of callers, namely that the checks have accepted it.
 pub fn same_pattern(
     row_ptr1: &[usize],
     col_idx1: &[u32],

@@ -6,8 +6,8 @@ ghost use Rattle.graph_rows.specs.Product.{product_of};
 
 use graph_rows::kernel::Sample;
 
-// The vector at `target` becomes the product with the one at `source`, from which it is apart. A turn does two rows: so
-// large a function is compiled once, and not once for each call, which would cost every step a tenth of its time.
+// The vector at `target` becomes the product with the one at `source`, from which it is apart. Either vector may lie before the other: the slice is
+// split between them.
 pub fn product_in(sample: Sample<'_>, work: &mut [f64], source: usize, target: usize)
     requires source_in_bounds { source + sample.pattern.n ≤ length work.old }
     requires target_in_bounds { target + sample.pattern.n ≤ length work.old }
@@ -17,17 +17,11 @@ pub fn product_in(sample: Sample<'_>, work: &mut [f64], source: usize, target: u
         work.new ≡ put target (product_of s (part source s.pattern.n w)) w }
 {
     let n = sample.pattern.n;
-    let source_end = source + n;
-    let mut i = 0;
-    while i + 1 < n {
-        let acc = sample.row_sum(&work[source..source_end], i);
-        let next = sample.row_sum(&work[source..source_end], i + 1);
-        work[target + i] = acc;
-        work[target + (i + 1)] = next;
-        i = i + 2;
-    }
-    if i < n {
-        let acc = sample.row_sum(&work[source..source_end], i);
-        work[target + i] = acc;
+    if source < target {
+        let (front, back) = work.split_at_mut(target);
+        sample.product(&front[source..source + n], &mut back[..n]);
+    } else {
+        let (front, back) = work.split_at_mut(source);
+        sample.product(&back[..n], &mut front[target..target + n]);
     }
 }

@@ -1,10 +1,10 @@
 -- What the checks of the counts and the row starts accept: the whole exactly `Rows`. Assumes nothing.
-use Rattle.std.proofs.Common.{◌≡◌, ℕ, zero, suc, ◌+◌, ◌<◌, ◌≤◌, ◌↔◌, List, length, get_or, sym, ◌∙◌, ⊎_elim, le_refl, le_of_suc-le-suc, eq-or-lt_of_le, add-one, arith, ltb-false, le-ltb}
+use Rattle.std.proofs.Common.{◌≡◌, ℕ, zero, suc, ◌+◌, ◌<◌, ◌≤◌, ◌↔◌, List, length, get_or, sym, ⊎_elim, le_refl, le_of_suc-le-suc, eq-or-lt_of_le, add-one, arith, ltb-false, le-ltb}
 use Rattle.error.specs.Answer.{Accepted}
 use Rattle.error.proofs.Checks.{next-accepted}
 use Rattle.graph_counts.proofs.Sound.{size-accepted, row-start-count-accepted, entry-count-accepted}
 use Rattle.graph_shape.specs.Rows.{Rows}
-use Rattle.graph_shape.specs.ShapeChecks.{row_starts_fault, entry_count_fault, shape_fault}
+use Rattle.graph_shape.specs.ShapeChecks.{row_starts_fault, shape_fault}
 use Rattle.graph_shape.proofs.First.{refuse_first-accepted}
 
 pub row-starts-accepted : (n : ℕ) (starts : List ℕ)
@@ -65,11 +65,6 @@ shape-accepted n starts entries = (says, holds)
           ),
         )
 
--- the same row starts over as many values, where these are as many as the last row start says
-pub rows-of-values : {n : ℕ} {starts : List ℕ} {entries : ℕ} (values : ℕ)
-    → Rows n starts entries
-    → entry_count_fault values (get_or starts n 0) ≡ Accepted
-    → Rows n starts values
-rows-of-values {n} {starts} values rows h =
-    let same = (entry-count-accepted values (get_or starts n 0)).0 h ∙ rows.last in
-    rw same rows
+-- the same, where the number of entries is said by the last row start
+pub rows-by-last : {n : ℕ} {starts : List ℕ} {entries : ℕ} → Rows n starts entries → Rows n starts (get_or starts n 0)
+rows-by-last rows = rw rows.last rows

@@ -1,3 +1,4 @@
 pub mod First
 pub mod Rows
+pub mod RowStarts
 pub mod ShapeChecks

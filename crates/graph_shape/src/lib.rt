@@ -10,7 +10,8 @@ use graph_counts::{check_entry_count, check_size};
 
 pub mod kernel;
 
-// Rows 6, 1, 2 and, of the columns, 3.
+// Rows 6, 1, 2 and, of the columns, 3. Here and below n and row_ptr are as a caller lends them: nothing of them is known before these checks, so that
+// a struct of the two would hold no fact, and each call would make it only for it to be taken apart. What they accept is a `kernel::RowStarts`.
 pub fn check_shape(n: usize, row_ptr: &[usize], columns: usize) -> Result<(), Refusal>
     ensures { result ≡ shape_fault n row_ptr.now columns }
 {
@@ -26,13 +27,11 @@ fn row_starts_rise(n: usize, row_ptr: &[usize]) -> bool
     requires { length row_ptr.now ≡ n + 1 }
     ensures { result ≡ true → Rise n row_ptr.now }
 {
-    let joined = row_ptr[..n]
-        .iter()
-        .zip(row_ptr[1..].iter())
-        .fold(0, |joined, (start, next)| {
-            let distance = std::num::wrapping_sub_usize(*next, *start);
-            joined | *start | distance
-        });
+    let mut joined = 0;
+    for (i, &start) in row_ptr[..n].iter().enumerate() {
+        let distance = std::num::wrapping_sub_usize(row_ptr[i + 1], start);
+        joined = joined | start | distance;
+    }
     joined < 0x8000_0000_0000_0000
 }
 
@@ -44,7 +43,7 @@ fn check_row_starts(n: usize, row_ptr: &[usize]) -> Result<(), Refusal>
     if row_starts_rise(n, row_ptr) {
         return Ok(());
     }
-    // The next start by its place: what a loop over `windows(2).enumerate()` yields is out of an invariant's reach.
+    // The next start by its place: no invariant can speak of what a loop over `windows(2).enumerate()` yields.
     for (i, &start) in row_ptr[..n].iter().enumerate() {
         if start > row_ptr[i + 1] {
             return Err(Refusal::RowStartFalls(i));

@@ -1,1 +1,2 @@
 pub mod LookupSound
+pub mod Rising

@@ -2,33 +2,22 @@
 // chain. Every function answers what its definition in specs/LookupChecks.antt says, for all inputs.
 #![tactic(auto)]
 
-ghost use Rattle.std.specs.Prelude.{◌≡◌, not, ◌<◌, length};
-ghost use Rattle.graph_traj_breakpoints.specs.LookupChecks.{not_rising_at, breakpoints_fault, lookup_time_fault, lookup_fault};
+ghost use Rattle.std.specs.Prelude.{◌≡◌};
+ghost use Rattle.graph_traj_breakpoints.specs.LookupChecks.{breakpoints_fault, lookup_time_fault, lookup_fault};
 
 use error::Refusal;
 use graph_traj_counts::{check_pool_count, check_segment_count};
 
-// Whether breakpoint i is finite and above its predecessor, if it has one.
-fn is_rising(breakpoints: &[f64], i: usize) -> bool
-    requires { i < length breakpoints.now }
-    ensures { result ≡ not (not_rising_at breakpoints.now i) }
-{
-    let x = breakpoints[i];
-    let is_finite = float::is_finite(x);
-    if i == 0 {
-        return is_finite;
-    }
-    is_finite & (breakpoints[i - 1] < x)
-}
-
-// Row 15: every breakpoint is finite and above its predecessor. By index, since each is compared with the one before it.
+// Row 15: every breakpoint is finite and above its predecessor. The first has none; every finite number is above minus infinity.
 pub fn check_breakpoints(breakpoints: &[f64]) -> Result<(), Refusal>
     ensures { result ≡ breakpoints_fault breakpoints.now }
 {
-    for i in 0..breakpoints.len() {
-        if !is_rising(breakpoints, i) {
-            return Err(Refusal::Breakpoint(breakpoints[i]));
+    let mut predecessor = f64::NEG_INFINITY;
+    for &x in breakpoints {
+        if !(float::is_finite(x) & (predecessor < x)) {
+            return Err(Refusal::Breakpoint(x));
         }
+        predecessor = x;
     }
     Ok(())
 }

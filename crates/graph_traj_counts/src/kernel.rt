@@ -6,7 +6,8 @@ use crate::check_pool_count;
 use error::Refusal;
 
 // Row 14 for the breakpoints, the start pool, the end pool and the laws, given by their lengths. A pool holds a value for each column
-// in each segment; segments and columns are at most 65,535, so that their product is a number of the machine.
+// in each segment; segments and columns are at most 65,535, so that their product is a number of the machine. Six numbers and no struct: the
+// trajectory that has them stands in a crate above, where the one call makes them of its lists.
 pub fn check_counts(
     segments: usize,
     columns: usize,

@@ -8,11 +8,15 @@ use error::Refusal;
 
 pub mod kernel;
 
-// Row 13: there are 1 to 65,535 segments.
+// The most segments that a trajectory has.
+const MOST_SEGMENTS: usize = 65535;
+
+// Row 13: there are 1 to 65,535 segments. The steps of a run are tested alike by another row: a function of both tests would take the refusal and
+// the most as arguments, and be longer at its two calls than the test is.
 pub fn check_segment_count(segments: usize) -> Result<(), Refusal>
     ensures { result ≡ segment_count_fault segments }
 {
-    if (segments == 0) | (segments > 65535) {
+    if (segments == 0) | (segments > MOST_SEGMENTS) {
         Err(Refusal::SegmentCount(segments))
     } else {
         Ok(())

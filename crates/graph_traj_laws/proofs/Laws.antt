@@ -1,32 +1,31 @@
 -- What a law's list is, case by case, and how long it is. Assumes nothing.
-use mathlib.Core.Path.{◌≡◌, refl}
+use mathlib.Core.Path.{◌≡◌, refl, sym, ap, ◌∙◌}
 use mathlib.Core.Bool.{Bool, true, false, cond}
 use mathlib.Core.List.{List}
-use Prim.Native.Nat.{ℕ, zero, suc, ◌+◌, ◌-◌, ◌*◌, ◌≤◌, ◌<◌}
-use native.Mathlib.Nat.{suc-mul, mul-le-mul_right}
+use Prim.Native.Nat.{ℕ, zero, suc, ◌+◌, ◌*◌, ◌≤◌, ◌<◌}
+use native.Mathlib.Nat.{zero-mul, suc-mul, mul-le-mul_right}
 use native.Mathlib.Omega.{arith}
 use lib.Dec.{eqb}
-use lib.ListN.{length, take, drop, length-take, length-drop}
+use lib.ListN.{length, length-take, length-drop}
 use lib.Ieee.{Float}
 use borrow.Author.Tests.{eq-eqb, ne_eqb}
 use Rattle.scratch.specs.Parts.{part}
+use Rattle.scratch.proofs.Parts.{part-whole}
 use Rattle.graph_traj_laws.specs.Laws.{by_law, values_at, law_list}
 
-module _ (law k m : ℕ) (starts ends : List Float) where
-  abbrev PartOf : List Float → List Float
-  PartOf pool = take (k * m + m - k * m) (drop (k * m) pool)
+-- the list of the one segment is the whole pool
+pub whole-pool : (m : ℕ) (pool : List Float) → length pool ≡ m → part (0 * m) m pool ≡ pool
+whole-pool m pool size = ap (λ (k : ℕ). part k m pool) (zero-mul m) ∙ ap (λ (k : ℕ). part 0 k pool) (sym size) ∙ part-whole pool
 
-  -- the part from k·m up to k·m + m has m values
-  part_of : (pool : List Float) → PartOf pool ≡ part (k * m) m pool
-  part_of pool = let e : k * m + m - k * m ≡ m = omega arith in rw e refl
-
-  pub law-start : law ≡ 0 → PartOf starts ≡ law_list law k m starts ends
+-- the two lists of one segment, of one length
+module _ (law : ℕ) (start end : List Float) (same : length end ≡ length start) where
+  pub law-start : law ≡ 0 → start ≡ law_list law 0 (length start) start end
   unfolding law_list
-  law-start z = let first : eqb law 0 ≡ true = eq-eqb law 0 z in rw first (part_of starts)
+  law-start z = let first : eqb law 0 ≡ true = eq-eqb law 0 z in rw first (sym (whole-pool _ start refl))
 
-  pub law-end : (law ≡ 0 → ⊥) → PartOf ends ≡ law_list law k m starts ends
+  pub law-end : (law ≡ 0 → ⊥) → end ≡ law_list law 0 (length start) start end
   unfolding law_list
-  law-end n = let first : eqb law 0 ≡ false = ne_eqb law 0 n in rw first (part_of ends)
+  law-end n = let first : eqb law 0 ≡ false = ne_eqb law 0 n in rw first (sym (whole-pool _ end same))
 
 -- the values of a segment of law 0 or 1 are its law's list, at any time
 pub law-values : (law k m : ℕ) (f : Float) (starts ends : List Float)

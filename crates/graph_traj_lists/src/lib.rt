@@ -31,7 +31,8 @@ pub fn first_not_finite(values: &[f64]) -> Option<usize>
     values.iter().position(|value| !float::is_finite(*value))
 }
 
-// Row 5, of one pool: every value is finite. An accepted pool costs one walk that only finds out whether there is a fault.
+// Row 5, of one pool: every value is finite. An accepted pool costs one walk that only finds out whether there is a fault. It is no
+// `graph_values::kernel::check_values`, whose walk to the fault goes by rows, as document 01 asks: a pool has no rows.
 pub fn check_pool(values: &[f64]) -> Result<(), Refusal>
     ensures { result ≡ value_fault values.now }
 {

@@ -2,9 +2,9 @@
 // chains. Every function answers what its definition in specs/TrajectoryChecks.antt says, for all inputs.
 #![tactic(auto)]
 
-ghost use Rattle.std.specs.Prelude.{◌≡◌};
+ghost use Rattle.std.specs.Prelude.{◌≡◌, ◌≤◌, length};
 ghost use Rattle.graph_traj_parts.specs.Trajectory.{trajectory_of};
-ghost use Rattle.graph_traj_parts.specs.TrajectoryChecks.{first_breakpoint_fault, one_segment_fault};
+ghost use Rattle.graph_traj_parts.specs.TrajectoryChecks.{first_breakpoint_fault, one_segment_fault, trajectory_counts_fault};
 ghost use Rattle.graph_traj_parts.specs.TrajectoryChecks.{trajectory_fault, adjoint_trajectory_fault};
 
 use error::Refusal;
@@ -52,12 +52,11 @@ pub fn check_first_breakpoint(first: f64) -> Result<(), Refusal>
     }
 }
 
-// The trajectory of a forward run: rows 6 and 1 to 4, 13, 14, 15, 19, 5.
-pub fn check_trajectory(trajectory: Trajectory<'_>) -> Result<(), Refusal>
-    ensures { result ≡ trajectory_fault (trajectory_of trajectory.entry) }
+// Row 14, of a trajectory whose segments and columns have been counted.
+fn check_trajectory_counts(trajectory: Trajectory<'_>) -> Result<(), Refusal>
+    requires { (trajectory.segments ≤ 65535) × (length trajectory.col_idx.now ≤ 65535) }
+    ensures { result ≡ trajectory_counts_fault (trajectory_of trajectory.entry) }
 {
-    graph_checks::check_pattern(trajectory.n, trajectory.row_ptr, trajectory.col_idx)?;
-    check_segment_count(trajectory.segments)?;
     check_counts(
         trajectory.segments,
         trajectory.col_idx.len(),
@@ -65,7 +64,16 @@ pub fn check_trajectory(trajectory: Trajectory<'_>) -> Result<(), Refusal>
         trajectory.starts.len(),
         trajectory.ends.len(),
         trajectory.laws.len(),
-    )?;
+    )
+}
+
+// The trajectory of a forward run: rows 6 and 1 to 4, 13, 14, 15, 19, 5.
+pub fn check_trajectory(trajectory: Trajectory<'_>) -> Result<(), Refusal>
+    ensures { result ≡ trajectory_fault (trajectory_of trajectory.entry) }
+{
+    graph_checks::check_pattern(trajectory.n, trajectory.row_ptr, trajectory.col_idx)?;
+    check_segment_count(trajectory.segments)?;
+    check_trajectory_counts(trajectory)?;
     check_breakpoints(trajectory.breakpoints)?;
     check_lists(trajectory.laws, trajectory.starts, trajectory.ends)
 }
@@ -76,14 +84,7 @@ pub fn check_adjoint_trajectory(trajectory: Trajectory<'_>) -> Result<(), Refusa
 {
     graph_checks::check_pattern(trajectory.n, trajectory.row_ptr, trajectory.col_idx)?;
     check_one_segment(trajectory.segments)?;
-    check_counts(
-        trajectory.segments,
-        trajectory.col_idx.len(),
-        trajectory.breakpoints.len(),
-        trajectory.starts.len(),
-        trajectory.ends.len(),
-        trajectory.laws.len(),
-    )?;
+    check_trajectory_counts(trajectory)?;
     check_breakpoints(trajectory.breakpoints)?;
     check_first_breakpoint(trajectory.breakpoints[0])?;
     check_lists(trajectory.laws, trajectory.starts, trajectory.ends)

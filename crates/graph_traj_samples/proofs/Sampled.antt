@@ -1,19 +1,17 @@
 -- The laws of two samples that lie as pairs: the values of each, and that a test of values, as row 20 for a sample's values and row 11 for
 -- its weights, refuses neither where every number of the pairs passes. Assumes nothing.
-use mathlib.Core.Path.{◌≡◌, refl, sym, ap, ◌∙◌, subst}
+use mathlib.Core.Path.{◌≡◌, refl, sym, ap, ◌∙◌}
 use mathlib.Core.Bool.{Bool, true, false, ◌&&◌, and_assoc}
 use mathlib.Core.List.{List}
-use Prim.Native.Nat.{ℕ, ◌+◌, ◌-◌, ◌*◌, ◌≤◌, ◌<◌}
+use Prim.Native.Nat.{ℕ, ◌+◌, ◌*◌, ◌≤◌, ◌<◌}
 use native.Mathlib.Omega.{arith}
-use lib.ListN.{length, get_or, take, drop}
+use lib.ListN.{length, get_or, take}
 use lib.Ieee.{Float, nan, binary64}
 use Rattle.float.specs.All.{all, all-is}
 use Rattle.float.proofs.All.{all_more, all-passed}
 use Rattle.arithmetic.specs.Vector.{tabulate}
 use Rattle.arithmetic.specs.Arithmetic.{ieee, at}
 use Rattle.arithmetic.proofs.Tabulate.{length-tabulate, get_d_tabulate}
-use Rattle.scratch.specs.Parts.{part, put}
-use Rattle.scratch.proofs.Parts.{length_part}
 use Rattle.error.specs.Checks.{next, refuse_if}
 use Rattle.error.specs.declared.Refusal.{Refusal}
 use Rattle.error.specs.Answer.{Checked}
@@ -25,7 +23,7 @@ use Rattle.graph_pairs.specs.Pairs.{alternate, pairs, firsts, seconds}
 use Rattle.graph_pairs.proofs.Pairs.{alternate-first, alternate-second, first-of-pair, second-of-pair}
 use Rattle.graph_pairs.proofs.Pairs.{firsts-of-pairs, seconds-of-pairs}
 use Rattle.graph_traj_laws.specs.Laws.{law_value, law_values}
-use Rattle.graph_traj_samples.specs.Sampled.{sampled_fault, law_pairs}
+use Rattle.graph_traj_samples.specs.Sampled.{law_pairs}
 
 -- ---- a test of the values of one sample, and the refusal of the first that it refuses
 
@@ -109,23 +107,6 @@ module _ (bad : Float → Bool) (refusal : Float → Refusal) (good : Float → 
       let second = none-refused bad refusal two m (λ i l.
       enough _ (ap good (sym (number (2 * i + 1) nan (omega arith) ∙ alternate-second one two i)) ∙ each (2 * i + 1) (omega arith))) in
       accepted-then Accepted Accepted _ _ first refl second
-
--- what `sample` answers and writes, of two lists of m values
-abbrev pub SampledTo : Checked → Float → Float → ℕ → List Float → List Float → ℕ → List Float → List Float → Type 0
-SampledTo answer f1 f2 target before after m s e =
-    (answer ≡ next (sampled_fault (law_values m f1 s e)) (sampled_fault (law_values m f2 s e)))
-    × (after ≡ put target (law_pairs m f1 f2 s e) before)
-
--- what holds of the two slices that lie from k·m up to k·m + m holds of segment k's lists
-pub in-segment : (P : ℕ → List Float → List Float → Type 0) (k m : ℕ) (starts ends : List Float)
-    → k * m + m ≤ length starts
-    → (let slice = λ (pool : List Float). take (k * m + m - k * m) (drop (k * m) pool) in P (length (slice starts)) (slice starts) (slice ends))
-    → P m (part (k * m) m starts) (part (k * m) m ends)
-in-segment P k m starts ends h p =
-    let slice = λ (n : ℕ) (pool : List Float). take n (drop (k * m) pool) in
-    let size : k * m + m - k * m ≡ m = omega arith in
-    subst (λ n. P n (part (k * m) m starts) (part (k * m) m ends)) (length_part (k * m) m starts h)
-    (subst (λ n. P (length (slice n starts)) (slice n starts) (slice n ends)) size p)
 
 -- a walk that tests both samples' values, one and two, as pairs: after i turns `passed` is whether the first i pairs' numbers are good
 module _ (good : Float → Bool) (one two : ℕ → Float) (m : ℕ) where

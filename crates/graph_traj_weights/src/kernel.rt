@@ -10,6 +10,8 @@ ghost use Rattle.graph_traj_laws.specs.Laws.{law_values};
 ghost use Rattle.graph_traj_samples.specs.Sampled.{law_pairs};
 
 use error::Refusal;
+use graph_pairs::paired::Pair;
+use graph_traj_laws::kernel::EndLists;
 use graph_traj_samples::kernel::{check_values, value_pairs};
 use magnus_graph_checks::is_positive;
 
@@ -27,32 +29,27 @@ fn check_weight(weight: f64) -> Result<(), Refusal>
 // The weights of both samples, to the pairs at `at`, and row 11 of the first sample's and then of the second's. Accepted weights cost one
 // walk.
 pub fn sample_weights(
-    starts: &[f64],
-    ends: &[f64],
-    fraction1: f64,
-    fraction2: f64,
+    lists: EndLists<'_>,
+    fractions: Pair,
     work: &mut [f64],
     at: usize,
 ) -> Result<(), Refusal>
-    requires ends_len { length ends.now ≡ length starts.now }
-    requires starts_in_bounds { at + 2 * length starts.now ≤ length work.old }
-    ensures { let n = length starts.now in
-        let s = starts.now in
-        let e = ends.now in
-        (result ≡ weight_fault (law_values n fraction1 s e) (law_values n fraction2 s e))
-        × (work.new ≡ put at (law_pairs n fraction1 fraction2 s e) work.old) }
+    requires { at + 2 * length lists.start.now ≤ length work.old }
+    ensures { let s = lists.entry.start.now in
+        let e = lists.entry.end.now in
+        let n = length s in
+        (result ≡ weight_fault (law_values n fractions.first s e) (law_values n fractions.second s e))
+        × (work.new ≡ put at (law_pairs n fractions.first fractions.second s e) work.old) }
 {
     if value_pairs(
-        starts,
-        ends,
-        fraction1,
-        fraction2,
+        lists,
+        fractions,
         work,
         at,
         |x, y| is_positive(x) & is_positive(y),
     ) {
         return Ok(());
     }
-    check_values(starts, ends, fraction1, |weight| check_weight(weight))?;
-    check_values(starts, ends, fraction2, |weight| check_weight(weight))
+    check_values(lists, fractions.first, |weight| check_weight(weight))?;
+    check_values(lists, fractions.second, |weight| check_weight(weight))
 }

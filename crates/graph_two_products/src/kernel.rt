@@ -7,9 +7,21 @@ ghost use Rattle.graph_rows.specs.Product.{product_of};
 ghost use Rattle.graph_two_products.specs.SharedPattern.{SharedPattern};
 
 use graph_pairs::kernel::row_sums;
-use graph_pairs::paired::{Lists, Shared};
+use graph_pairs::paired::{Lists, OneList};
 use graph_rows::kernel::{Pattern, Sample};
 use graph_scratch::kernel::product_in;
+
+// Two samples with the same number of nodes. `shared` says that they have one pattern, as is found out once a step: one walk over it then forms the
+// products with both. It is a fact of the two samples and no enum of the two cases, since the contracts speak of both samples in either case.
+#[derive(Clone, Copy)]
+pub struct TwoSamples<'a> {
+    pub first: Sample<'a>,
+    pub second: Sample<'a>,
+    pub shared: bool,
+    pub ghost same_nodes: { second.pattern.n ≡ first.pattern.n },
+    pub ghost shared_pattern: { SharedPattern shared first.pattern.row_ptr.now first.pattern.col_idx.now
+        second.pattern.row_ptr.now second.pattern.col_idx.now },
+}
 
 // The vectors at `target_first` and at `target_second`, which lies behind it, become the products of two samples of one pattern with the vector at
 // `source`, from which both are apart.
@@ -37,7 +49,7 @@ fn shared_products_in(
     let source_end = source + n;
     // By index: the source may lie before the targets or behind them, so no one split of the slice serves.
     for i in 0..n {
-        let v = Shared {
+        let v = OneList {
             list: &work[source..source_end],
         };
         let sums = row_sums(pattern, vals, v, i);
@@ -46,28 +58,29 @@ fn shared_products_in(
     }
 }
 
-// The same of two samples, each with its own pattern; `shared` says that the two patterns are the same.
+// The same of two samples, each with its own pattern, which may be the same.
 pub fn two_products_in(
-    first: Sample<'_>,
-    second: Sample<'_>,
-    shared: bool,
+    samples: TwoSamples<'_>,
     work: &mut [f64],
     source: usize,
     target_first: usize,
     target_second: usize,
 )
-    requires same_nodes { second.pattern.n ≡ first.pattern.n }
-    requires shared_pattern { SharedPattern shared first.pattern.row_ptr.now first.pattern.col_idx.now
-        second.pattern.row_ptr.now second.pattern.col_idx.now }
-    requires source_in_bounds { source + first.pattern.n ≤ length work.old }
-    requires target_order { target_first + first.pattern.n ≤ target_second }
-    requires target_in_bounds { target_second + first.pattern.n ≤ length work.old }
-    requires apart_first { Apart first.pattern.n source target_first }
-    requires apart_second { Apart first.pattern.n source target_second }
+    requires source_in_bounds { source + samples.first.pattern.n ≤ length work.old }
+    requires target_order { target_first + samples.first.pattern.n ≤ target_second }
+    requires target_in_bounds { target_second + samples.first.pattern.n ≤ length work.old }
+    requires apart_first { Apart samples.first.pattern.n source target_first }
+    requires apart_second { Apart samples.first.pattern.n source target_second }
     ensures { let w = work.old in
-        let v = part source first.entry.pattern.n w in
-        work.new ≡ put target_second (product_of second.entry v) (put target_first (product_of first.entry v) w) }
+        let s = samples.entry in
+        let v = part source s.first.pattern.n w in
+        work.new ≡ put target_second (product_of s.second v) (put target_first (product_of s.first v) w) }
 {
+    let TwoSamples {
+        first,
+        second,
+        shared,
+    } = samples;
     if shared {
         let vals = Lists {
             first: first.vals,

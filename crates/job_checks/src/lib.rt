@@ -5,6 +5,10 @@ ghost use Rattle.std.specs.Prelude.{◌≡◌, min};
 ghost use Rattle.job_checks.specs.Map.{stands, required, allowed};
 ghost use Rattle.job_checks.specs.Bits.{bit_of};
 
+use kernel::stands_in;
+
+pub mod kernel;
+
 // The most bytes that a job has.
 pub const MOST_BYTES: usize = 16384;
 
@@ -57,11 +61,10 @@ pub struct Map {
 
 impl Map {
     // Whether the job has a field.
-    #[tactic(auto, unfolding(crate::specs::Map::stands))]
     pub fn has(self, field: Field) -> bool
         ensures { result ≡ stands self.bits (bit_of field) }
     {
-        (self.bits >> field.bit()) % 2 == 1
+        stands_in(self.bits, field.bit())
     }
 
     // Whether it has the fields that no job lacks.

@@ -1,7 +1,7 @@
 // A job, and what its bytes say. Past the end of its bytes they read 0.
 ghost use Rattle.std.specs.Prelude.{◌≡◌, ◌+◌, ◌*◌, ◌^◌, ◌≤◌, ◌<◌, length, get_or};
 ghost use Rattle.job_checks.specs.Bits.{bit_of};
-ghost use Rattle.job_format.specs.JobFormat.{field_sizes, real, job_map, job_nodes, job_entries, job_has, job_field};
+ghost use Rattle.job_format.specs.JobFormat.{field_sizes, word16, real, job_map, job_nodes, job_entries, job_has, job_field};
 
 use float_bits::from_bits;
 use job_checks::{Field, Map};
@@ -33,17 +33,17 @@ impl<'a> Model for Job<'a> {
 
 impl<'a> Job<'a> {
     // The job with these bytes.
-    #[tactic(auto, unfolding(crate::specs::JobFormat::job_map, crate::specs::JobFormat::job_nodes, crate::specs::JobFormat::job_entries, crate::specs::JobFormat::word16))]
+    #[tactic(auto, unfolding(crate::specs::JobFormat::job_map, crate::specs::JobFormat::job_nodes, crate::specs::JobFormat::job_entries))]
     pub fn new(bytes: &'a [u8]) -> Self
         ensures { result ≡ bytes.now }
     {
         Job {
             bytes,
             map: Map {
-                bits: word16(bytes, 0),
+                bits: number_at(bytes, 0),
             },
-            nodes: word16(bytes, 2) as usize,
-            entries: word16(bytes, 4) as usize,
+            nodes: number_at(bytes, 2) as usize,
+            entries: number_at(bytes, 4) as usize,
         }
     }
 
@@ -127,6 +127,15 @@ impl<'a> Job<'a> {
     {
         self.start_of_bit(9)
     }
+}
+
+// The number of 16 bits at a place.
+#[tactic(auto, unfolding(crate::specs::JobFormat::word16))]
+fn number_at(bytes: &[u8], at: usize) -> u64
+    requires { at + 2 < 2 ^ 64 }
+    ensures { (result ≡ word16 bytes.now at) × (result < 65536) }
+{
+    word16(bytes, at)
 }
 
 // The real at a place.

@@ -12,9 +12,9 @@ use kernel::Job;
 pub mod kernel;
 
 // The most nodes and entries that a job has.
-const MOST_NODES: usize = 64;
+pub const MOST_NODES: usize = 64;
 
-const MOST_ENTRIES: usize = 512;
+pub const MOST_ENTRIES: usize = 512;
 
 // Whether the bytes are no job.
 #[tactic(auto, unfolding(crate::specs::JobFormat::malformed))]

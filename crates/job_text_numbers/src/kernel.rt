@@ -56,9 +56,7 @@ impl Text {
         requires { length self.old + length bytes.now ≤ TEXT }
         ensures { self.new ≡ self.old ++ bytes.now }
     {
-        for byte in bytes {
-            self.bytes.push(*byte);
-        }
+        self.bytes.try_extend_from_slice(bytes).unwrap();
     }
 
     // The last k digits of n in a base, the most significant first.

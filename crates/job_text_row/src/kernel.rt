@@ -33,7 +33,8 @@ pub fn put_row(text: &mut Text, row: Row)
     }
 }
 
-// A space and a count.
+// A space and a count. A count and a real have a function each: one for an enum of both would need that enum, and definitions of what a value
+// carries and of the room that it takes, which is longer.
 fn put_count(text: &mut Text, k: usize)
     requires { length text.old + 21 ≤ TEXT }
     ensures added { Added (Spaced (count k ∷ [])) text.old text.new }

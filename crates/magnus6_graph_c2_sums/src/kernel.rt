@@ -40,6 +40,7 @@ pub fn c2_sum(work: &mut [f64], n: usize, tau: f64)
     let l3_l2_y = 19 * n;
     let two_b3_scale = (tau + tau) * TEN_OVER_3;
     let b2_b1_scale = tau * SQRT15_OVER_3 * -tau;
+    // Seven vectors are read at once: by index, since a zip of eight lists would be no plainer.
     let (before, behind) = work.split_at_mut(20 * n);
     for (i, c2) in behind[..n].iter_mut().enumerate() {
         let two_b3_y = second_difference(

@@ -10,17 +10,19 @@ ghost use Rattle.magnus6_graph_helpers.specs.Omega6Step.{exp_omega6};
 
 use graph_rows::kernel::Sample;
 use graph_same_pattern::same_pattern;
+use graph_two_products::kernel::TwoSamples;
 use magnus_graph_taylor::kernel::taylor_sum;
 use magnus6_graph_parts::kernel::Samples6;
 use magnus6_graph_term::kernel::Omega6;
 use scratch::kernel::{clear, load, store};
 
 // One step of order 6 (01, part 9; `apply_exp_omega6_kernel` of the Rust): dst becomes the step's answer for the signal src, from a Taylor sum of six
-// terms (`accumulate_taylor6` of the Rust), and the first 22n elements of work become +0.
-pub fn step6(
-    first: Sample<'_>,
-    second: Sample<'_>,
-    third: Sample<'_>,
+// terms (`accumulate_taylor6` of the Rust), and the first 22n elements of work become +0. Why the last four calls are no function that all steps share,
+// `magnus_graph_step::kernel::step4` tells.
+pub fn step6<'a>(
+    first: Sample<'a>,
+    second: Sample<'a>,
+    third: Sample<'a>,
     tau: f64,
     src: &[f64],
     dst: &mut [f64],
@@ -43,10 +45,12 @@ pub fn step6(
     );
     let omega = Omega6 {
         samples: Samples6 {
-            first,
+            outer: TwoSamples {
+                first,
+                second: third,
+                shared,
+            },
             second,
-            third,
-            shared,
             tau,
         },
     };

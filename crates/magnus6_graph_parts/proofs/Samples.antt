@@ -9,15 +9,15 @@ use Rattle.magnus6_graph_parts.specs.declared.kernel.Samples6.{Samples6}
 use Rattle.magnus6_graph_parts.proofs.Omega6Parts.{Sizes}
 
 module _ (s : Samples6) where
-  pub sizes : Sizes s.first.pattern.n (product_of s.first) (product_of s.second) (product_of s.third)
+  pub sizes : Sizes s.outer.first.pattern.n (product_of s.outer.first) (product_of s.second) (product_of s.outer.second)
   sizes = record {
     first = λ x. length-tabulate _ _;
     second = λ x. length-tabulate _ _ ∙ s.second_nodes;
-    third = λ x. length-tabulate _ _ ∙ s.third_nodes;
+    third = λ x. length-tabulate _ _ ∙ s.outer.same_nodes;
   }
 
   -- a product with the second sample was written
   pub second-image : (source target : ℕ) (w : List Float) {w' : List Float}
       → w' ≡ put target (product_of s.second (part source s.second.pattern.n w)) w
-      → w' ≡ put target (product_of s.second (part source s.first.pattern.n w)) w
+      → w' ≡ put target (product_of s.second (part source s.outer.first.pattern.n w)) w
   second-image source target w e = image-of source target w (product_of s.second) s.second_nodes e

@@ -1,1 +1,2 @@
 pub mod Omega6Parts
+pub mod WorkSlice

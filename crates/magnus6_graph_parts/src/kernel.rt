@@ -25,19 +25,17 @@
 //   20n   C2 x
 //   21n   (B2 + C2) l
 // No vector is read after another has taken its place.
-ghost use Rattle.std.specs.Prelude.{◌≡◌, ◌+◌, ◌*◌, ◌≤◌, length};
+ghost use Rattle.std.specs.Prelude.{◌≡◌, ◌*◌, ◌≤◌, length};
 ghost use Rattle.std.specs.Float.{binary64};
 ghost use Rattle.std.specs.Float.Ieee.{mul};
 ghost use Rattle.arithmetic.specs.Arithmetic.{ieee};
 ghost use Rattle.scratch.specs.Parts.{part, put};
-ghost use Rattle.graph_rows.specs.Product.{product_of};
-ghost use Rattle.graph_two_products.specs.SharedPattern.{SharedPattern};
 ghost use Rattle.magnus.specs.Omega6.{constants6};
-ghost use Rattle.magnus6_graph_parts.specs.Omega6Parts.{second_difference_of, scaled_second_difference, BFormed};
+ghost use Rattle.magnus6_graph_parts.specs.Omega6Parts.{second_difference_of, scaled_second_difference};
 
 use graph_rows::kernel::Sample;
 use graph_scratch::kernel::product_in;
-use graph_two_products::kernel::two_products_in;
+use graph_two_products::kernel::{TwoSamples, two_products_in};
 use scratch_multiples::kernel::{scale_within, scaled_difference};
 
 // Constants of magnus6_graph.rs; their values are those of constants6 in the crate magnus.
@@ -45,20 +43,16 @@ pub const SQRT15_OVER_3: f64 = 1.290_994_448_735_805_6;
 
 pub const TEN_OVER_3: f64 = 10.0 / 3.0;
 
-// The three samples of a step of order 6, which have the same number of nodes, and the step's length τ. `shared` says that the first and the third
-// sample have one pattern: one walk over it then forms both of their products with a vector.
-// The work slice stays beside them: each part lends it on, and a struct that holds a slice to write to is not Copy.
+// The three samples of a step of order 6, which have the same number of nodes, and the step's length τ: the outer two are the first and the third, of
+// which the products with a vector are formed together.
+// The work slice stays beside them: the parts call functions of the crates scratch, which take a slice and places in it, and a struct of the two would
+// be taken apart at each of these calls.
 #[derive(Clone, Copy)]
 pub struct Samples6<'a> {
-    pub first: Sample<'a>,
+    pub outer: TwoSamples<'a>,
     pub second: Sample<'a>,
-    pub third: Sample<'a>,
-    pub shared: bool,
     pub tau: f64,
-    pub ghost second_nodes: { second.pattern.n ≡ first.pattern.n },
-    pub ghost third_nodes: { third.pattern.n ≡ first.pattern.n },
-    pub ghost shared_pattern: { SharedPattern shared first.pattern.row_ptr.now first.pattern.col_idx.now
-        third.pattern.row_ptr.now third.pattern.col_idx.now },
+    pub ghost second_nodes: { second.pattern.n ≡ outer.first.pattern.n },
 }
 
 // scale · (A3 - 2 A2 + A1) at a place, from a1, a2 and a3, the products with the samples there.
@@ -80,35 +74,30 @@ fn b3_sum(work: &mut [f64], n: usize, tau: f64)
     let a2 = 7 * n;
     let a3 = 8 * n;
     let scale = tau * TEN_OVER_3;
+    // Three vectors are read at once: by index, since a zip of four lists would be no plainer.
     let (before, behind) = work.split_at_mut(11 * n);
     for (i, b3) in behind[..n].iter_mut().enumerate() {
         *b3 = second_difference(scale, before[a1 + i], before[a2 + i], before[a3 + i]);
     }
 }
 
-// B1 x, B2 x and B3 x, for the vector x at index `x`.
-pub fn form_b(samples: &Samples6<'_>, work: &mut [f64], x: usize)
-    requires room { 22 * samples.now.first.pattern.n ≤ length work.old }
-    requires x_in_bounds { x + samples.now.first.pattern.n ≤ 6 * samples.now.first.pattern.n }
-    ensures { let w = work.old in
-        let s = samples.now in
-        let n = s.first.pattern.n in
-        BFormed (ieee binary64) n constants6 s.tau (product_of s.first) (product_of s.second) (product_of s.third) (part x n w) w work.new }
-{
-    let n = samples.first.pattern.n;
-    // L1 x, L3 x, L2 x
-    two_products_in(
-        samples.first,
-        samples.third,
-        samples.shared,
-        work,
-        x,
-        6 * n,
-        8 * n,
-    );
-    product_in(samples.second, work, x, 7 * n);
-    // B1 x, B2 x, B3 x
-    scale_within(work, n, -samples.tau, 7 * n, 9 * n);
-    scaled_difference(work, n, samples.tau * SQRT15_OVER_3, 6 * n, 8 * n, 10 * n);
-    b3_sum(work, n, samples.tau);
+impl<'a> Samples6<'a> {
+    ghost use Rattle.magnus6_graph_parts.specs.Omega6Parts.{BFormed};
+    ghost use Rattle.magnus6_graph_parts.specs.WorkSlice.{Room, LiesBefore, Leaves};
+
+    // B1 x, B2 x and B3 x, for the vector x at index `x`.
+    pub fn form_b(&self, work: &mut [f64], x: usize)
+        requires room { Room self.now work.old }
+        requires x_in_bounds { LiesBefore self.now x 6 }
+        ensures { Leaves BFormed self.now x work.old work.new }
+    {
+        let n = self.outer.first.pattern.n;
+        // L1 x, L3 x, L2 x
+        two_products_in(self.outer, work, x, 6 * n, 8 * n);
+        product_in(self.second, work, x, 7 * n);
+        // B1 x, B2 x, B3 x
+        scale_within(work, n, -self.tau, 7 * n, 9 * n);
+        scaled_difference(work, n, self.tau * SQRT15_OVER_3, 6 * n, 8 * n, 10 * n);
+        b3_sum(work, n, self.tau);
+    }
 }

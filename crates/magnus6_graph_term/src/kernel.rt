@@ -25,21 +25,21 @@ pub struct Omega6<'a> {
 }
 
 impl<'a> Omega for Omega6<'a> {
-    ghost nodes = { λ o. o.samples.first.pattern.n };
+    ghost nodes = { λ o. o.samples.outer.first.pattern.n };
 
-    ghost used = { λ o. 22 * o.samples.first.pattern.n };
+    ghost used = { λ o. 22 * o.samples.outer.first.pattern.n };
 
     ghost image = { λ o. let s = o.samples in
         let A = ieee binary64 in
-        omega6 (on_vectors A s.first.pattern.n) constants6 s.tau (product_of s.first) (product_of s.second) (product_of s.third) };
+        omega6 (on_vectors A s.outer.first.pattern.n) constants6 s.tau (product_of s.outer.first) (product_of s.second) (product_of s.outer.second) };
 
     fn node_count(&self) -> usize {
-        self.samples.first.pattern.n
+        self.samples.outer.first.pattern.n
     }
 
     // `apply_omega6` and `axpy_into_slice` of the Rust.
     fn add_term(&self, coefficient: f64, work: &mut [f64]) {
-        let n = self.samples.first.pattern.n;
+        let n = self.samples.outer.first.pattern.n;
         form_at_v(&self.samples, work);
         form_lop(&self.samples, work, 4 * n);
         form_rop(&self.samples, work, 3 * n);

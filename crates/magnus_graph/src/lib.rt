@@ -1,5 +1,6 @@
 // Steps of order 4 (magnus_graph.rs, magnus_graph_helpers.rs, magnus_graph_adjoint.rs; 01, parts 6 and 8). A step takes two samples, each
 // with its own n, row starts, columns and values.
+// The parameters are those of the Rust's call and of the C interface's: a struct of some of them would be made at each call to be taken apart here.
 #![tactic(auto)]
 
 ghost use Rattle.magnus_graph_faults.specs.StepChecks.{sample_of};
@@ -8,12 +9,16 @@ ghost use Rattle.magnus_graph_outcome.specs.StepOutcome.{step_input, Stepped, fo
 use error::Refusal;
 use graph_checks::CsrParts;
 use graph_rows::kernel::Sample;
-use magnus_graph_checks::binary64_values;
+// what a caller says of the samples' spectra, from here too
+pub use magnus_graph_checks::SpectralBound;
+use magnus_graph_checks::{Lengths, binary64_values};
 use magnus_graph_helpers::factors::Factors;
 use magnus_graph_step::kernel::step4;
 use magnus_graph_step_checks::check_step;
+use magnus_graph_term::kernel::Omega4;
 
-// The literal for √3/12 of the unweighted steps; its bits are those of sqrt3_over12 in specs/Omega4.antt.
+// The literal for √3/12 of the unweighted steps; its bits are those of sqrt3_over12 in
+// magnus_graph_outcome's specs/Omega4.antt.
 pub const SQRT3_OVER_12_F64: f64 = 0.144_337_567_297_406_433;
 
 // The forward step: dst becomes exp(Ω)·src by the Taylor sum of degree 4. Refused by rows 6 and 1 to 5 of each sample, 9, 7, 8, and 10 for the
@@ -22,8 +27,7 @@ pub fn apply_exp_omega4_kernel(
     first: CsrParts<'_>,
     second: CsrParts<'_>,
     tau: f64,
-    rho_bar_max: f64,
-    convergence_radius_check: bool,
+    bound: SpectralBound,
     src: &[f64],
     dst: &mut [f64],
     work: &mut [f64],
@@ -31,29 +35,18 @@ pub fn apply_exp_omega4_kernel(
     ensures { Stepped forward (step_input
         (sample_of first.entry)
         (sample_of second.entry)
-        tau rho_bar_max convergence_radius_check src.now dst.old work.old)
+        tau bound.rho_bar_max bound.convergence_radius_check src.now dst.old work.old)
         result dst.new work.new }
 {
-    step(
-        1.0,
-        first,
-        second,
-        tau,
-        rho_bar_max,
-        convergence_radius_check,
-        src,
-        dst,
-        work,
-    )
+    step(1.0, first, second, tau, bound, src, dst, work)
 }
 
-// The adjoint step: the same with the commutator's sign reversed.
+// The adjoint step: the same with the commutator's sign reversed. The C interface has a call of its own for it.
 pub fn apply_exp_omega4_adj_kernel(
     first: CsrParts<'_>,
     second: CsrParts<'_>,
     tau: f64,
-    rho_bar_max: f64,
-    convergence_radius_check: bool,
+    bound: SpectralBound,
     src: &[f64],
     dst: &mut [f64],
     work: &mut [f64],
@@ -61,20 +54,10 @@ pub fn apply_exp_omega4_adj_kernel(
     ensures { Stepped adjoint (step_input
         (sample_of first.entry)
         (sample_of second.entry)
-        tau rho_bar_max convergence_radius_check src.now dst.old work.old)
+        tau bound.rho_bar_max bound.convergence_radius_check src.now dst.old work.old)
         result dst.new work.new }
 {
-    step(
-        -1.0,
-        first,
-        second,
-        tau,
-        rho_bar_max,
-        convergence_radius_check,
-        src,
-        dst,
-        work,
-    )
+    step(-1.0, first, second, tau, bound, src, dst, work)
 }
 
 // The step with the commutator's sign.
@@ -83,8 +66,7 @@ fn step(
     first: CsrParts<'_>,
     second: CsrParts<'_>,
     tau: f64,
-    rho_bar_max: f64,
-    convergence_radius_check: bool,
+    bound: SpectralBound,
     src: &[f64],
     dst: &mut [f64],
     work: &mut [f64],
@@ -92,19 +74,11 @@ fn step(
     ensures { Stepped sign (step_input
         (sample_of first.entry)
         (sample_of second.entry)
-        tau rho_bar_max convergence_radius_check src.now dst.old work.old)
+        tau bound.rho_bar_max bound.convergence_radius_check src.now dst.old work.old)
         result dst.new work.new }
 {
-    let checked = check_step(
-        first,
-        second,
-        tau,
-        rho_bar_max,
-        convergence_radius_check,
-        src.len(),
-        dst.len(),
-        work.len(),
-    );
+    let lengths = Lengths::of(src, dst, work);
+    let checked = check_step(first, second, tau, bound, lengths);
     let Ok(()) = checked else {
         return checked;
     };
@@ -115,13 +89,11 @@ fn step(
         sign,
         s: SQRT3_OVER_12_F64,
     };
-    step4(
-        Sample::from_parts(first),
-        Sample::from_parts(second),
+    let omega = Omega4 {
+        first: Sample::from_parts(first),
+        second: Sample::from_parts(second),
         factors,
-        src,
-        dst,
-        work,
-    );
+    };
+    step4(omega, src, dst, work);
     Ok(())
 }

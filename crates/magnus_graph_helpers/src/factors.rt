@@ -2,7 +2,8 @@
 ghost use Rattle.std.specs.Prelude.{◌≡◌};
 ghost use Rattle.magnus_graph_helpers.specs.Factors.{scale_of, comm_scale_of};
 
-// What a step of order 4 forms them of: its length tau, the sign of the commutator, 1 forward and -1 adjoint, and the literal s for √3/12.
+// What a step of order 4 forms them of: its length tau, the sign of the commutator, 1 forward and -1 adjoint, and the literal s for √3/12. The sign is a
+// number, since the formula multiplies by it.
 #[derive(Clone, Copy)]
 pub struct Factors {
     pub tau: f64,

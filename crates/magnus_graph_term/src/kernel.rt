@@ -16,7 +16,7 @@ use magnus_graph_helpers::kernel::omega_sum;
 use magnus_graph_taylor::kernel::Omega;
 use scratch_scaled_sums::kernel::add_scaled;
 
-// Ω of order 4 of two samples, each with a pattern of its own.
+// Ω of order 4 of two samples, each with a pattern of its own. With weights it is `WeightedOmega4` (varcoef_magnus_graph_taylor_term), which says why.
 #[derive(Clone, Copy)]
 pub struct Omega4<'a> {
     pub first: Sample<'a>,

@@ -1,4 +1,5 @@
 // Runs along a trajectory: the forward run (magnus_graph.rs; 01, part 10) and the adjoint run (magnus_graph_adjoint.rs; 01, part 8).
+// The parameters are those of the Rust's call and of the C interface's: a struct of some of them would be made at each call to be taken apart here.
 #![tactic(auto)]
 
 ghost use Rattle.graph_traj_parts.specs.Trajectory.{trajectory_of};
@@ -9,7 +10,9 @@ use graph_traj_adjoint_checks::check_adjoint_run;
 use graph_traj_checks::check::check_run;
 use graph_traj_parts::Trajectory;
 use graph_traj_parts::kernel::CheckedTrajectory;
-use magnus_graph_checks::binary64_values;
+// what a caller says of the samples' spectra, from here too
+pub use magnus_graph_checks::SpectralBound;
+use magnus_graph_checks::{Lengths, binary64_values};
 use magnus_graph_traj_adjoint_run::kernel::run_adjoint_steps;
 use magnus_graph_traj_finish::kernel::finish_run;
 use magnus_graph_traj_run::kernel::run_all_segments;
@@ -21,31 +24,25 @@ use scratch::kernel::{load, store};
 pub fn evolve_with_traj_into(
     trajectory: Trajectory<'_>,
     steps: usize,
-    rho_bar_max: f64,
-    convergence_radius_check: bool,
+    bound: SpectralBound,
     src: &[f64],
     dst: &mut [f64],
     work: &mut [f64],
 ) -> Result<(), Refusal>
     ensures { Ran (forward_run (trajectory_of trajectory.entry)
-        steps rho_bar_max convergence_radius_check src.now dst.old work.old)
+        steps bound.rho_bar_max bound.convergence_radius_check src.now dst.old work.old)
         result dst.new work.new }
 {
-    let checked = check_run(
-        trajectory,
-        steps,
-        rho_bar_max,
-        convergence_radius_check,
-        src.len(),
-        dst.len(),
-        work.len(),
-    );
+    let lengths = Lengths::of(src, dst, work);
+    let checked = check_run(trajectory, steps, bound, lengths);
     let Ok(()) = checked else {
         return checked;
     };
     binary64_values(trajectory.starts);
     binary64_values(trajectory.ends);
     let need = 7 * trajectory.n + 2 * trajectory.col_idx.len();
+    // These lines are as in the other runs, but for the steps: a function that took the steps as a closure would have to say of any closure what is
+    // said of each run's steps here, and its calls would be no shorter.
     load(work, 0, src);
     let along = CheckedTrajectory { parts: trajectory };
     let taken = run_all_segments(along, steps, work);
@@ -54,32 +51,23 @@ pub fn evolve_with_traj_into(
 
 // The adjoint run in the one segment of its trajectory: dst becomes src after `steps` steps of length tau, the last first, with the
 // commutator's sign reversed. Refused before the first step by rows 6, 1 to 4, 13, 14, 15, 17, 19, 5, 9, 16, 7, 8 and 10; what a refusal
-// and the steps leave is as in the forward run. No steps copy src and leave work as it was; they do not meet rows 16, 7 and 8, nor row 10
-// for work.
+// and the steps leave is as in the forward run. No steps copy src and leave work as it was; rows 16, 7 and 8, and row 10 for work, are not
+// tested then.
 pub fn evolve_state_adjoint_into(
     trajectory: Trajectory<'_>,
     tau: f64,
     steps: usize,
-    rho_bar_max: f64,
-    convergence_radius_check: bool,
+    bound: SpectralBound,
     src: &[f64],
     dst: &mut [f64],
     work: &mut [f64],
 ) -> Result<(), Refusal>
     ensures { Ran (adjoint_run (trajectory_of trajectory.entry)
-        tau steps rho_bar_max convergence_radius_check src.now dst.old work.old)
+        tau steps bound.rho_bar_max bound.convergence_radius_check src.now dst.old work.old)
         result dst.new work.new }
 {
-    let checked = check_adjoint_run(
-        trajectory,
-        tau,
-        steps,
-        rho_bar_max,
-        convergence_radius_check,
-        src.len(),
-        dst.len(),
-        work.len(),
-    );
+    let lengths = Lengths::of(src, dst, work);
+    let checked = check_adjoint_run(trajectory, tau, steps, bound, lengths);
     let Ok(()) = checked else {
         return checked;
     };

@@ -19,7 +19,7 @@ pub fn run_adjoint_steps(
     steps: usize,
     work: &mut [f64],
 ) -> Result<(), Refusal>
-    requires { (steps ≤ 65535) × (run_need (trajectory_of trajectory.parts) ≤ length work.old) }
+    requires { run_need (trajectory_of trajectory.parts) ≤ length work.old }
     ensures { RunStepsTaken (trajectory_of trajectory.entry.parts)
         (adjoint_course tau steps) adjoint (segment_steps 0 steps) result work.old work.new }
 {

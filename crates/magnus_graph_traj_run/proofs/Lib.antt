@@ -1,1 +1,2 @@
 pub mod StepAt
+pub mod Cut

@@ -1,25 +1,20 @@
 -- One step of an unweighted run, told by the value of its segment, is the step of the run's course. Assumes nothing.
 use mathlib.Core.Path.{◌≡◌, ap, ◌∙◌, subst₂}
 use mathlib.Core.List.{List, [], ◌∷◌}
-use Prim.Native.Nat.{ℕ, ◌+◌, ◌*◌, ◌≤◌, ◌<◌}
-use native.Mathlib.Omega.{arith}
-use lib.ListN.{length, get_or}
+use Prim.Native.Nat.{ℕ, ◌+◌}
 use lib.Ieee.{Float}
 use Rattle.error.specs.Answer.{Checked}
 use Rattle.magnus_graph_outcome.specs.StepOutcome.{forward, adjoint}
 use Rattle.graph_traj_segment.specs.declared.kernel.Segment.{Segment}
-use Rattle.graph_traj_segment.specs.Times.{fraction}
-use Rattle.graph_traj_segment.specs.Times.{c1, c2, step_start, adjoint_step_start, sample_time}
-use Rattle.graph_traj_laws.proofs.Laws.{list-within}
+use Rattle.graph_traj_segment.specs.Times.{step_start, adjoint_step_start}
 use Rattle.graph_traj_breakpoints.specs.Breakpoints.{breakpoint}
-use Rattle.graph_traj_parts.specs.Trajectory.{Trajectory, AcceptedTrajectory}
+use Rattle.graph_traj_parts.specs.Trajectory.{Trajectory}
 use Rattle.graph_traj_faults.specs.RunChecks.{tau_of, run_need}
 use Rattle.magnus_graph_traj_steps.specs.RunSteps.{Course, step_in, forward_course, adjoint_course, sample_at, run_step_fault, run_step_image}
 use Rattle.magnus_graph_traj_steps.specs.StepsTaken.{RunStepsTaken}
 use Rattle.magnus_graph_traj_steps.proofs.Courses.{forward-tau, forward-start, adjoint-tau, adjoint-start}
 use Rattle.magnus_graph_traj_steps.proofs.StepsTaken.{one-taken}
 use Rattle.magnus_graph_traj_steps.proofs.Walk.{StepsWalked}
-use Rattle.magnus_graph_traj_step.specs.RunStepTaken.{RunStepTaken}
 use Rattle.magnus_graph_traj_run.specs.StepAt.{StepAt}
 
 -- the segment from breakpoint k to the next, with so long steps, before its step j

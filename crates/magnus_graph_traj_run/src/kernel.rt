@@ -9,7 +9,9 @@ ghost use Rattle.magnus_graph_traj_steps.specs.StepsTaken.{RunStepsTaken};
 ghost use Rattle.magnus_graph_traj_run.specs.StepAt.{StepAt};
 
 use error::Refusal;
+use graph_pairs::paired::Pair;
 use graph_rows::kernel::Pattern;
+use graph_traj_laws::kernel::EndLists;
 use graph_traj_parts::kernel::CheckedTrajectory;
 use graph_traj_segment::kernel::Segment;
 use magnus_graph_traj_step::kernel::run_step;
@@ -27,23 +29,29 @@ pub fn step_at(
     requires { (k < trajectory.parts.segments) × (run_need (trajectory_of trajectory.parts) ≤ length work.old) }
     ensures { StepAt (trajectory_of trajectory.entry.parts) k segment t_start sign result work.old work.new }
 {
-    let fraction1 = segment.fraction(segment.first_sample(t_start));
-    let fraction2 = segment.fraction(segment.second_sample(t_start));
     let parts = trajectory.parts;
+    // Not by a method of the trajectory: its crate would have to use the one of the row product, which none of the trajectory's checks needs.
     let pattern = Pattern {
         n: parts.n,
         row_ptr: parts.row_ptr,
         col_idx: parts.col_idx,
     };
+    let m = parts.col_idx.len();
+    let from = k * m;
+    let lists = EndLists {
+        start: &parts.starts[from..from + m],
+        end: &parts.ends[from..from + m],
+    };
+    let fractions = Pair {
+        first: segment.fraction(segment.first_sample(t_start)),
+        second: segment.fraction(segment.second_sample(t_start)),
+    };
     run_step(
         pattern,
         parts.laws[k],
-        parts.starts,
-        parts.ends,
-        k,
+        lists,
         segment.tau,
-        fraction1,
-        fraction2,
+        fractions,
         sign,
         work,
     )
@@ -56,7 +64,7 @@ pub fn run_segment_steps(
     i: usize,
     work: &mut [f64],
 ) -> Result<(), Refusal>
-    requires { (steps ≤ 65535) × (i < trajectory.parts.segments) × (run_need (trajectory_of trajectory.parts) ≤ length work.old) }
+    requires { (i < trajectory.parts.segments) × (run_need (trajectory_of trajectory.parts) ≤ length work.old) }
     ensures { let t = trajectory_of trajectory.entry.parts in
         RunStepsTaken t (forward_course t.breakpoints t.segments steps) forward (segment_steps i steps) result
         work.old work.new }
@@ -76,11 +84,12 @@ pub fn run_all_segments(
     steps: usize,
     work: &mut [f64],
 ) -> Result<(), Refusal>
-    requires { (steps ≤ 65535) × (run_need (trajectory_of trajectory.parts) ≤ length work.old) }
+    requires { run_need (trajectory_of trajectory.parts) ≤ length work.old }
     ensures { let t = trajectory_of trajectory.entry.parts in
         RunStepsTaken t (forward_course t.breakpoints t.segments steps) forward (all_steps steps t.segments) result
         work.old work.new }
 {
+    // By its number, and not by a pair of breakpoints: a segment's law and its lists in `starts` and `ends` are found by it too.
     for i in 0..trajectory.parts.segments {
         run_segment_steps(trajectory, steps, i, work)?;
     }

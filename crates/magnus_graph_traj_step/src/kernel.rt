@@ -7,8 +7,9 @@ ghost use Rattle.magnus_graph_outcome.specs.Omega4.{sqrt3_over12};
 ghost use Rattle.magnus_graph_traj_step.specs.RunStepTaken.{RunStepTaken};
 
 use error::Refusal;
+use graph_pairs::paired::Pair;
 use graph_rows::kernel::{Pattern, Sample};
-use graph_traj_laws::kernel::law_list;
+use graph_traj_laws::kernel::EndLists;
 use graph_traj_samples::kernel::sample;
 use magnus_graph::SQRT3_OVER_12_F64;
 use magnus_graph_helpers::factors::Factors;
@@ -18,61 +19,45 @@ use magnus_graph_traj_terms::kernel::{ConstantOmega4, sampled_taylor4};
 // The step in a segment of law 2: both samples are taken and checked, the first one first, and then the sum is formed.
 fn sampled_step(
     pattern: Pattern<'_>,
-    starts: &[f64],
-    ends: &[f64],
-    k: usize,
-    fraction1: f64,
-    fraction2: f64,
+    lists: EndLists<'_>,
+    fractions: Pair,
     factors: Factors,
     work: &mut [f64],
 ) -> Result<(), Refusal>
     requires literal { factors.s ≡ sqrt3_over12 }
-    requires k_bound { k ≤ 65535 }
-    requires within { let m = length pattern.col_idx.now in
-        (k * m + m ≤ length starts.now) × (k * m + m ≤ length ends.now) }
+    requires lists_len { length lists.start.now ≡ length pattern.col_idx.now }
     requires room { 7 * pattern.n + 2 * length pattern.col_idx.now ≤ length work.old }
     ensures { let p = pattern.entry in
-        RunStepTaken p.n p.row_ptr.now p.col_idx.now 2 starts.now ends.now k
-        factors.tau fraction1 fraction2 factors.sign result work.old work.new }
+        let l = lists.entry in
+        RunStepTaken p.n p.row_ptr.now p.col_idx.now 2 l.start.now l.end.now 0
+        factors.tau fractions.first fractions.second factors.sign result work.old work.new }
 {
-    let m = pattern.col_idx.len();
-    sample(
-        starts,
-        ends,
-        k,
-        m,
-        fraction1,
-        fraction2,
-        work,
-        7 * pattern.n,
-    )?;
+    sample(lists, fractions, work, 7 * pattern.n)?;
     sampled_taylor4(pattern, factors, work);
     Ok(())
 }
 
-// One step in segment k by its law, with samples at two fractions of the way through the segment: the held signal, the vector at 0,
-// becomes its successor unless row 20 refuses. Under laws 0 and 1 both samples are the caller's own list, finite and uncopied.
-pub fn run_step<'a>(
+// One step in a segment with these lists, by its law, with samples at two fractions of the way through the segment: the held signal, the
+// vector at 0, becomes its successor unless row 20 refuses. Under laws 0 and 1 both samples are the caller's own list, finite and uncopied:
+// other Ω, so that a closure for the step would only move the test of the law.
+pub fn run_step(
     pattern: Pattern<'_>,
     law: u8,
-    starts: &'a [f64],
-    ends: &'a [f64],
-    k: usize,
+    lists: EndLists<'_>,
     tau: f64,
-    fraction1: f64,
-    fraction2: f64,
+    fractions: Pair,
     sign: f64,
     work: &mut [f64],
 ) -> Result<(), Refusal>
-    requires law_bound { (law ≤ 2) × (k ≤ 65535) }
-    requires within { let m = length pattern.col_idx.now in
-        (k * m + m ≤ length starts.now) × (k * m + m ≤ length ends.now) }
-    requires by_index { ((i : ℕ) → i < length starts.now → finite (get_or starts.now i nan) ≡ true)
-        × ((i : ℕ) → i < length ends.now → finite (get_or ends.now i nan) ≡ true) }
+    requires law_bound { law ≤ 2 }
+    requires lists_len { length lists.start.now ≡ length pattern.col_idx.now }
+    requires by_index { ((i : ℕ) → i < length lists.start.now → finite (get_or lists.start.now i nan) ≡ true)
+        × ((i : ℕ) → i < length lists.end.now → finite (get_or lists.end.now i nan) ≡ true) }
     requires room { 7 * pattern.n + 2 * length pattern.col_idx.now ≤ length work.old }
     ensures { let p = pattern.entry in
-        RunStepTaken p.n p.row_ptr.now p.col_idx.now law starts.now ends.now k
-        tau fraction1 fraction2 sign result work.old work.new }
+        let l = lists.entry in
+        RunStepTaken p.n p.row_ptr.now p.col_idx.now law l.start.now l.end.now 0
+        tau fractions.first fractions.second sign result work.old work.new }
 {
     let factors = Factors {
         tau,
@@ -80,11 +65,9 @@ pub fn run_step<'a>(
         s: SQRT3_OVER_12_F64,
     };
     if law == 2 {
-        return sampled_step(
-            pattern, starts, ends, k, fraction1, fraction2, factors, work,
-        );
+        return sampled_step(pattern, lists, fractions, factors, work);
     }
-    let vals = law_list(law, starts, ends, k, pattern.col_idx.len());
+    let vals = lists.law_list(law);
     let omega = ConstantOmega4 {
         sample: Sample { pattern, vals },
         factors,

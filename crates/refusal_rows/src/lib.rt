@@ -17,7 +17,7 @@ pub enum Row {
     Reals(u64, f64, f64),
 }
 
-// The row of a refusal.
+// The row of a refusal. It is no `From`: callers have this name, and with a `From` beside it one thing would have two.
 pub fn row_of(refusal: Refusal) -> Row
     ensures result_value { row_number result ≡ number_of refusal }
     ensures result_value_2 { row_values result ≡ values_of refusal }

@@ -54,12 +54,23 @@ impl fmt::Display for Tally {
     }
 }
 
-// Replays the list on standard input. A case is right where its call, which reads its fields, finds it so, and nothing is left of them.
-// A list that does not end behind its last case is cut off.
-pub fn replay<R: Input + Print + AllocGlobal, F: Fn(u16, &mut Fields<'_>) -> Result<bool, Fault>>(
-    rt: &R,
-    is_right: F,
-) -> io::Result<Tally>
+// Whether a case is right: its call, which reads its fields, finds it so, and nothing is left of them.
+fn is_case_right<K: TryFrom<u16, Error = Fault>, F: Fn(K, &mut Fields<'_>) -> Result<bool, Fault>>(
+    kind: u16,
+    fields: &mut Fields<'_>,
+    is_right: &F,
+) -> Result<bool, Fault>
+    requires { F.IsAlwaysCallable is_right.now }
+{
+    Ok(is_right(K::try_from(kind)?, fields)? && fields.is_empty())
+}
+
+// Replays the list on standard input, whose cases are of the kinds K. A list that does not end behind its last case is cut off.
+pub fn replay<
+    R: Input + Print + AllocGlobal,
+    K: TryFrom<u16, Error = Fault>,
+    F: Fn(K, &mut Fields<'_>) -> Result<bool, Fault>,
+>(rt: &R, is_right: F) -> io::Result<Tally>
     requires { F.IsAlwaysCallable is_right }
 {
     let mut bytes = Vec::new(rt.alloc());
@@ -70,8 +81,8 @@ pub fn replay<R: Input + Print + AllocGlobal, F: Fn(u16, &mut Fields<'_>) -> Res
         let Ok((kind, mut fields)) = next_case(&mut list) else {
             break;
         };
-        let right = match is_right(kind, &mut fields) {
-            Ok(right) => right && fields.is_empty(),
+        let right = match is_case_right(kind, &mut fields, &is_right) {
+            Ok(right) => right,
             Err(Fault::Malformed) => false,
             Err(Fault::OutOfMemory(error)) => return Err(error.into()),
         };

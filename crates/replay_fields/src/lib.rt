@@ -103,6 +103,8 @@ pub trait Field: Drop {
     fn read(fields: &mut Fields<'_>) -> Result<Self, Fault>;
 }
 
+// The numbers have an impl each, which differ in the type: no trait has `from_le_bytes` of all four, so a generic impl would need one with as
+// many impls, and `rt verdict` refuses those that a macro of the repository writes.
 impl Field for u16 {
     fn read(fields: &mut Fields<'_>) -> Result<u16, Fault> {
         Ok(u16::from_le_bytes(fields.array()?))
@@ -138,6 +140,13 @@ impl Field for f64 {
 impl Field for bool {
     fn read(fields: &mut Fields<'_>) -> Result<bool, Fault> {
         Ok(fields.array()? == [1])
+    }
+}
+
+// Two that stand one behind the other.
+impl<A: Field, B: Field> Field for (A, B) {
+    fn read(fields: &mut Fields<'_>) -> Result<(A, B), Fault> {
+        Ok((fields.read()?, fields.read()?))
     }
 }
 

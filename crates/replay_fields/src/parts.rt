@@ -1,6 +1,8 @@
 // What the cases of several kinds hold.
 use crate::{Fault, Field, Fields};
 use graph_checks::CsrParts;
+use magnus_graph_checks::SpectralBound;
+use varcoef_magnus_graph_checks::NodeWeights;
 
 // A Laplacian.
 #[derive(Drop)]
@@ -12,7 +14,7 @@ pub struct Sample {
 }
 
 impl Sample {
-    // Its parts, as the calls take them.
+    // Its parts, as the calls take them. They are borrowed, as by an `as_slice`: a method says so, where a `From` would speak of another value.
     pub fn parts(&self) -> CsrParts<'_> {
         CsrParts {
             n: self.n,
@@ -34,13 +36,6 @@ impl Field for Sample {
     }
 }
 
-// The spectral bound of a step or a run, and whether row 8 is checked.
-#[derive(Clone, Copy)]
-pub struct SpectralBound {
-    pub rho_bar_max: f64,
-    pub convergence_radius_check: bool,
-}
-
 impl Field for SpectralBound {
     fn read(fields: &mut Fields<'_>) -> Result<SpectralBound, Fault> {
         Ok(SpectralBound {
@@ -58,6 +53,17 @@ pub struct Weights {
     pub second: Vec<f64>,
 }
 
+impl Weights {
+    // The weights and the bound, as the calls take them: borrowed, so a method, as for a sample.
+    pub fn lent(&self) -> NodeWeights<'_> {
+        NodeWeights {
+            a_sup_max: self.a_sup_max,
+            first: &self.first,
+            second: &self.second,
+        }
+    }
+}
+
 impl Field for Weights {
     fn read(fields: &mut Fields<'_>) -> Result<Weights, Fault> {
         Ok(Weights {
@@ -68,7 +74,8 @@ impl Field for Weights {
     }
 }
 
-// A refusal that is expected: its row of document 01's table, and its values, a count as a number and a real as its bits.
+// A refusal that is expected: its row of document 01's table, and its values, a count as a number and a real as its bits. It is no `Refusal`:
+// which of its cases a row is would be written out a second time here, and a NaN in one is equal to nothing, so that bits are compared in any case.
 #[derive(Drop)]
 pub struct Refused {
     pub number: u16,

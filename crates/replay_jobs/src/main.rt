@@ -8,11 +8,24 @@ use replay_answers::texts::are_alike;
 use replay_fields::{Fault, Fields};
 use std::io;
 
-// Whether the job of a case, which has kind 20, is answered by the text behind it.
-fn is_right(kind: u16, fields: &mut Fields<'_>) -> Result<bool, Fault> {
-    if kind != 20 {
-        return Err(Fault::Malformed);
+// The kind of the cases.
+#[derive(Clone, Copy)]
+struct Job;
+
+impl TryFrom<u16> for Job {
+    type Error = Fault;
+
+    fn try_from(kind: u16) -> Result<Job, Fault> {
+        if kind == 20 {
+            Ok(Job)
+        } else {
+            Err(Fault::Malformed)
+        }
     }
+}
+
+// Whether the job of a case is answered by the text behind it.
+fn is_right(_kind: Job, fields: &mut Fields<'_>) -> Result<bool, Fault> {
     let job = fields.byte_slice()?;
     let expected = fields.byte_slice()?;
     Ok(are_alike(run_job(job).as_bytes(), expected))

@@ -24,7 +24,8 @@ enum Call {
     AxpyIntoSlice,
 }
 
-// The call of the cases of a kind.
+// The call of the cases of a kind. Each replay has such a table of its own, and no row of it is in another: one function over a list of numbers and
+// kinds would be given as many rows.
 impl TryFrom<u16> for Call {
     type Error = Fault;
 
@@ -40,9 +41,9 @@ impl TryFrom<u16> for Call {
     }
 }
 
-// Whether the call of a kind does what the case says.
-fn is_right(kind: u16, fields: &mut Fields<'_>) -> Result<bool, Fault> {
-    match Call::try_from(kind)? {
+// Whether a call does what the case says.
+fn is_right(call: Call, fields: &mut Fields<'_>) -> Result<bool, Fault> {
+    match call {
         Call::FromCsrParts => parts_right(fields),
         Call::GershgorinBoundCsr => bound_right(fields),
         Call::ApplyIntoSlice => product_right(fields),

@@ -7,11 +7,24 @@ use replay_fields::{Fault, Fields};
 use square_root::sqrt;
 use std::io;
 
-// Whether the root of a case, which has kind 1, is right.
-fn is_right(kind: u16, fields: &mut Fields<'_>) -> Result<bool, Fault> {
-    if kind != 1 {
-        return Err(Fault::Malformed);
+// The kind of the cases.
+#[derive(Clone, Copy)]
+struct Root;
+
+impl TryFrom<u16> for Root {
+    type Error = Fault;
+
+    fn try_from(kind: u16) -> Result<Root, Fault> {
+        if kind == 1 {
+            Ok(Root)
+        } else {
+            Err(Fault::Malformed)
+        }
     }
+}
+
+// Whether the root of a case is right.
+fn is_right(_kind: Root, fields: &mut Fields<'_>) -> Result<bool, Fault> {
     let x: f64 = fields.read()?;
     let bits: u64 = fields.read()?;
     Ok(has_bits(sqrt(x), bits))

@@ -75,13 +75,13 @@ pub fn columns(
 ) -> Result<Vec<u32>, Fault> {
     let n = length_by_rule(n)?;
     let stride = stride.checked_rem(n).unwrap_or(0);
-    let mut columns = Vec::new(fields.alloc());
-    for k in 0..length_by_rule(entries)? {
-        let column = k
-            .saturating_mul(stride)
-            .checked_rem(n)
-            .ok_or(Fault::Malformed)?;
-        columns.push(u32::try_from(column)?)?;
-    }
-    Ok(columns)
+    (0..length_by_rule(entries)?)
+        .map(|k| -> Result<u32, Fault> {
+            let column = k
+                .saturating_mul(stride)
+                .checked_rem(n)
+                .ok_or(Fault::Malformed)?;
+            Ok(u32::try_from(column)?)
+        })
+        .try_collect(fields.alloc())
 }

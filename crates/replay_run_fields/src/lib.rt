@@ -1,13 +1,14 @@
 // What a case of a run holds before the output, and the cases of lookups.
 #![tactic(auto)]
 
-use replay_fields::parts::{SpectralBound, Weights};
-use replay_fields::{Fault, Field, Fields};
+use magnus_graph_checks::SpectralBound;
+use replay_fields::parts::Weights;
+use replay_fields::{Fault, Fields};
 use replay_trajectories::{Form, Trajectory, read_trajectory};
 
 pub mod lookups;
 
-// The runs of the cases.
+// The runs of the cases. A case's kind is known before its fields are read, and its call, below, has what is read.
 #[derive(Clone, Copy)]
 pub enum RunKind {
     Forward,
@@ -33,26 +34,11 @@ impl Call {
     }
 }
 
-// The numbers that each run takes: how many steps there are, in each segment of a forward run, and its bound.
-#[derive(Clone, Copy)]
-struct Numbers {
-    steps: usize,
-    bound: SpectralBound,
-}
-
-impl Field for Numbers {
-    fn read(fields: &mut Fields<'_>) -> Result<Numbers, Fault> {
-        Ok(Numbers {
-            steps: fields.read()?,
-            bound: fields.read()?,
-        })
-    }
-}
-
 // What a run takes beside the slices that it writes.
 #[derive(Drop)]
 pub struct Run {
     pub trajectory: Trajectory,
+    // How many there are, in each segment of a forward run.
     pub steps: usize,
     pub bound: SpectralBound,
     pub call: Call,
@@ -72,27 +58,27 @@ impl Run {
     }
 }
 
-// Reads a run of a kind. The step length stands before the other numbers, and the weights behind them.
+// Reads a run of a kind. The step length stands before the steps and the bound, and the weights behind them.
 pub fn read_run(kind: RunKind, form: Form, fields: &mut Fields<'_>) -> Result<Run, Fault> {
     let trajectory = read_trajectory(form, fields)?;
     let n = trajectory.pattern.n;
-    let (numbers, call) = read_call(kind, form, fields, n)?;
+    let ((steps, bound), call) = read_call(kind, form, fields, n)?;
     Ok(Run {
         trajectory,
-        steps: numbers.steps,
-        bound: numbers.bound,
+        steps,
+        bound,
         call,
         src: form.slice(fields, n)?,
     })
 }
 
-// Reads the numbers of a run of a kind, and what only its call takes.
+// Reads the steps and the bound of a run of a kind, and what only its call takes.
 fn read_call(
     kind: RunKind,
     form: Form,
     fields: &mut Fields<'_>,
     n: usize,
-) -> Result<(Numbers, Call), Fault> {
+) -> Result<((usize, SpectralBound), Call), Fault> {
     match kind {
         RunKind::Forward => Ok((fields.read()?, Call::Forward)),
         RunKind::Adjoint => {
@@ -101,7 +87,7 @@ fn read_call(
         }
         RunKind::WeightedAdjoint => {
             let tau: f64 = fields.read()?;
-            let numbers: Numbers = fields.read()?;
+            let numbers: (usize, SpectralBound) = fields.read()?;
             let weights = Weights {
                 a_sup_max: fields.read()?,
                 first: form.slice(fields, n)?,

@@ -47,8 +47,7 @@ impl TryFrom<u16> for Kind {
 }
 
 // Whether the call of a kind does what the case says.
-fn is_right(kind: u16, fields: &mut Fields<'_>) -> Result<bool, Fault> {
-    let kind = Kind::try_from(kind)?;
+fn is_right(kind: Kind, fields: &mut Fields<'_>) -> Result<bool, Fault> {
     match kind.call {
         Call::Lookup => lookup_right(kind.form, fields),
         Call::Run(run) => run_right(run, kind.form, fields),

@@ -2,7 +2,6 @@
 use error::Refusal;
 use magnus_graph_traj::{evolve_state_adjoint_into, evolve_with_traj_into};
 use replay_answers::{Outcome, Work};
-use replay_fields::parts::SpectralBound;
 use replay_fields::{Fault, Fields};
 use replay_run_fields::{Call, Run, RunKind, read_run};
 use replay_trajectories::Form;
@@ -11,41 +10,20 @@ use replay_trajectories::Form;
 fn evolve(run: &Run, dst: &mut [f64], work: &mut [f64]) -> Result<(), Refusal> {
     let along = run.trajectory.parts();
     let steps = run.steps;
-    let SpectralBound {
-        rho_bar_max,
-        convergence_radius_check,
-    } = run.bound;
+    let bound = run.bound;
     let src = &run.src;
     match &run.call {
-        Call::Forward => evolve_with_traj_into(
-            along,
-            steps,
-            rho_bar_max,
-            convergence_radius_check,
-            src,
-            dst,
-            work,
-        ),
+        Call::Forward => evolve_with_traj_into(along, steps, bound, src, dst, work),
         Call::Adjoint { tau } => evolve_state_adjoint_into(
-            along,
-            *tau,
-            steps,
-            rho_bar_max,
-            convergence_radius_check,
-            src,
-            dst,
-            work,
+            along, *tau, steps, bound, src, dst, work,
         ),
         Call::WeightedAdjoint { tau, weights } => {
             varcoef_magnus_graph_adjoint::evolve_state_adjoint_into(
                 along,
                 *tau,
                 steps,
-                rho_bar_max,
-                weights.a_sup_max,
-                convergence_radius_check,
-                &weights.first,
-                &weights.second,
+                bound,
+                weights.lent(),
                 src,
                 dst,
                 work,
@@ -55,7 +33,7 @@ fn evolve(run: &Run, dst: &mut [f64], work: &mut [f64]) -> Result<(), Refusal> {
 }
 
 // How many elements of the work slice a run clears that must end so: all that it needs, after an acceptance and where row 11 or 20 ends it, but
-// none without steps. Every other refusal comes before the first step.
+// none without steps. Every other refusal comes before the first step. A case gives the row as a number, which is compared as it stands.
 fn cleared_by(run: &Run, outcome: &Outcome) -> usize {
     let stepped = match &outcome.answer {
         Ok(()) => true,

@@ -1,10 +1,11 @@
 // What a case of a step holds before the output.
 #![tactic(auto)]
 
-use replay_fields::parts::{Sample, SpectralBound, Weights};
-use replay_fields::{Fault, Field, Fields};
+use magnus_graph_checks::SpectralBound;
+use replay_fields::parts::{Sample, Weights};
+use replay_fields::{Fault, Fields};
 
-// The steps of the cases: of order 4, but for the last.
+// The steps of the cases: of order 4, but for the last. A case's kind is known before its fields are read, and its call, below, has what is read.
 #[derive(Clone, Copy)]
 pub enum StepKind {
     Forward,
@@ -50,22 +51,6 @@ impl Call {
     }
 }
 
-// The numbers that each step takes: its length, and its bound.
-#[derive(Clone, Copy)]
-struct Numbers {
-    tau: f64,
-    bound: SpectralBound,
-}
-
-impl Field for Numbers {
-    fn read(fields: &mut Fields<'_>) -> Result<Numbers, Fault> {
-        Ok(Numbers {
-            tau: fields.read()?,
-            bound: fields.read()?,
-        })
-    }
-}
-
 // What a step takes beside the slices that it writes.
 #[derive(Drop)]
 pub struct Step {
@@ -77,23 +62,26 @@ pub struct Step {
     pub src: Vec<f64>,
 }
 
-// Reads a step of a kind. The third sample stands before the numbers, and the weights behind them.
+// Reads a step of a kind. The third sample stands before the length and the bound, and the weights behind them.
 pub fn read_step(kind: StepKind, fields: &mut Fields<'_>) -> Result<Step, Fault> {
     let first: Sample = fields.read()?;
     let second: Sample = fields.read()?;
-    let (numbers, call) = read_call(kind, fields)?;
+    let ((tau, bound), call) = read_call(kind, fields)?;
     Ok(Step {
         first,
         second,
-        tau: numbers.tau,
-        bound: numbers.bound,
+        tau,
+        bound,
         call,
         src: fields.slice()?,
     })
 }
 
-// Reads the numbers of a step of a kind, and what only its call takes.
-fn read_call(kind: StepKind, fields: &mut Fields<'_>) -> Result<(Numbers, Call), Fault> {
+// Reads the length and the bound of a step of a kind, and what only its call takes.
+fn read_call(
+    kind: StepKind,
+    fields: &mut Fields<'_>,
+) -> Result<((f64, SpectralBound), Call), Fault> {
     match kind {
         StepKind::Forward => Ok((fields.read()?, Call::Forward)),
         StepKind::Adjoint => Ok((fields.read()?, Call::Adjoint)),

@@ -2,7 +2,6 @@
 use error::Refusal;
 use magnus_graph::{apply_exp_omega4_adj_kernel, apply_exp_omega4_kernel};
 use magnus6_graph::apply_exp_omega6_kernel;
-use replay_fields::parts::SpectralBound;
 use replay_step_fields::{Call, Step};
 use varcoef_magnus_graph::{apply_exp_omega4_la_adj_kernel, apply_exp_omega4_la_kernel};
 
@@ -11,41 +10,17 @@ pub fn apply(step: &Step, dst: &mut [f64], work: &mut [f64]) -> Result<(), Refus
     let first = step.first.parts();
     let second = step.second.parts();
     let tau = step.tau;
-    let SpectralBound {
-        rho_bar_max,
-        convergence_radius_check,
-    } = step.bound;
+    let bound = step.bound;
     let src = &step.src;
     match &step.call {
-        Call::Forward => apply_exp_omega4_kernel(
-            first,
-            second,
-            tau,
-            rho_bar_max,
-            convergence_radius_check,
-            src,
-            dst,
-            work,
-        ),
-        Call::Adjoint => apply_exp_omega4_adj_kernel(
-            first,
-            second,
-            tau,
-            rho_bar_max,
-            convergence_radius_check,
-            src,
-            dst,
-            work,
-        ),
+        Call::Forward => apply_exp_omega4_kernel(first, second, tau, bound, src, dst, work),
+        Call::Adjoint => apply_exp_omega4_adj_kernel(first, second, tau, bound, src, dst, work),
         Call::WeightedForward(weights) => apply_exp_omega4_la_kernel(
             first,
             second,
             tau,
-            rho_bar_max,
-            weights.a_sup_max,
-            convergence_radius_check,
-            &weights.first,
-            &weights.second,
+            bound,
+            weights.lent(),
             src,
             dst,
             work,
@@ -54,11 +29,8 @@ pub fn apply(step: &Step, dst: &mut [f64], work: &mut [f64]) -> Result<(), Refus
             first,
             second,
             tau,
-            rho_bar_max,
-            weights.a_sup_max,
-            convergence_radius_check,
-            &weights.first,
-            &weights.second,
+            bound,
+            weights.lent(),
             src,
             dst,
             work,
@@ -68,8 +40,7 @@ pub fn apply(step: &Step, dst: &mut [f64], work: &mut [f64]) -> Result<(), Refus
             second,
             third.parts(),
             tau,
-            rho_bar_max,
-            convergence_radius_check,
+            bound,
             src,
             dst,
             work,

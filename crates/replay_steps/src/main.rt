@@ -13,8 +13,8 @@ mod calls;
 
 // Whether the step of a kind does what the case says. An accepted step has an output of n elements; a refused one clears nothing of the work
 // slice.
-fn is_right(kind: u16, fields: &mut Fields<'_>) -> Result<bool, Fault> {
-    let step = read_step(StepKind::try_from(kind)?, fields)?;
+fn is_right(kind: StepKind, fields: &mut Fields<'_>) -> Result<bool, Fault> {
+    let step = read_step(kind, fields)?;
     let mut dst: Vec<f64> = fields.slice()?;
     let mut work: Work = fields.read()?;
     let outcome: Outcome = fields.read()?;

@@ -12,32 +12,37 @@ pub enum Form {
 }
 
 impl Form {
+    // Reads a slice as it stands, or what a rule gives in its place.
+    fn slice_or<T: Field, F: FnOnce(&mut Fields<'_>) -> Result<Vec<T>, Fault> + Drop>(
+        self,
+        fields: &mut Fields<'_>,
+        rule: F,
+    ) -> Result<Vec<T>, Fault>
+        requires { F.IsAlwaysCallable rule }
+    {
+        match self {
+            Form::Stored => fields.slice(),
+            Form::ByRules => rule(fields),
+        }
+    }
+
     // Reads a slice that has the length where rules give it.
     pub fn slice<T: Field + Copy>(
         self,
         fields: &mut Fields<'_>,
         length: usize,
     ) -> Result<Vec<T>, Fault> {
-        match self {
-            Form::Stored => fields.slice(),
-            Form::ByRules => repeat_slice(fields, length),
-        }
+        self.slice_or(fields, |fields| repeat_slice(fields, length))
     }
 
     // Reads the output before a call. By rules it has n elements, each the real that stands there.
     pub fn output(self, fields: &mut Fields<'_>, n: usize) -> Result<Vec<f64>, Fault> {
-        match self {
-            Form::Stored => fields.slice(),
-            Form::ByRules => repeat_one(fields, n),
-        }
+        self.slice_or(fields, |fields| repeat_one(fields, n))
     }
 
     // Reads the breakpoints of so many segments.
     pub fn breakpoints(self, fields: &mut Fields<'_>, segments: usize) -> Result<Vec<f64>, Fault> {
-        match self {
-            Form::Stored => fields.slice(),
-            Form::ByRules => sum_increments(fields, segments),
-        }
+        self.slice_or(fields, |fields| sum_increments(fields, segments))
     }
 
     // Reads the laws, which are counts in a case and bytes in a call.
@@ -97,7 +102,7 @@ pub struct Trajectory {
 }
 
 impl Trajectory {
-    // Its parts, as the runs take them.
+    // Its parts, as the runs take them: borrowed, so a method, as for a sample.
     pub fn parts(&self) -> graph_traj_parts::Trajectory<'_> {
         graph_traj_parts::Trajectory {
             n: self.pattern.n,

@@ -1,5 +1,9 @@
 // Vectors put into a work slice, taken out of it, copied within it and cleared, for callers that keep the vectors within it, and apart
 // where one is read while another is written.
+//
+// A vector of a work slice is named by its place, here and in the crates above. Which vectors are read and which is written differs from call to
+// call, and some are one and the same, so that no one split of the slice serves. Each function asks only for the places that it uses: a struct of
+// the slice with the room of a whole step would ask for more.
 ghost use Rattle.std.specs.Prelude.{◌≡◌, ◌+◌, ◌<◌, ◌≤◌, length, Float};
 ghost use Rattle.scratch.specs.Parts.{part, put, Apart, zeros, combined, Computes};
 
@@ -52,7 +56,7 @@ pub fn combine_within<F: Fn(f64, f64) -> f64>(
     ensures { let w = work.old in
         (h : Float → Float → Float) → Computes (F.post f) h → work.new ≡ put target (combined h n (part x n w) (part y n w)) w }
 {
-    // By index: the vectors lie in one slice, and a second split of it has no generated proof.
+    // By index: x or y may be the target itself, and the two may overlap, so that no split of the slice has all three.
     for i in 0..n {
         work[target + i] = f(work[x + i], work[y + i]);
     }

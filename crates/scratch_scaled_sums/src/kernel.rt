@@ -23,6 +23,7 @@ pub fn add_scaled_to(work: &[f64], at: usize, scale: f64, out: &mut [f64])
     ensures { let n = length out.old in
         out.new ≡ plus_scaled (ieee binary64) n out.old scale (part at n work.now) }
 {
+    // By `enumerate`: in a loop over `out.iter_mut().zip(..)` an invariant has each element as it was lent, and not as it was left.
     for (i, y) in out.iter_mut().enumerate() {
         *y = *y + scale * work[at + i];
     }

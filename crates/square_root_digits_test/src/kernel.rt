@@ -4,8 +4,8 @@ ghost use Rattle.ieee_square_root.specs.Steps.{RootDigits};
 
 use square_root_digits::kernel::{HIDDEN, SIGN, SPLIT, Significand};
 
-// Whether root's digits r are the whole number nearest to the root of radicand·2^52, said by the sign bit of the result: of many such words
-// joined by `&` it is set where it is set in all, and a vector of them is joined at once. r·r = high·2^52 + low, in parts of 26 digits. Of the
+// Whether root's digits r are the whole number nearest to the root of radicand·2^52, said by the sign bit of the result: it is that of two
+// differences, so that no comparison is made, and words of many values are joined by `&`. r·r = high·2^52 + low, in parts of 26 digits. Of the
 // radicand it asks the upper bound alone, less than a `Radicand` has.
 pub fn digits_test(radicand: u64, root: Significand) -> u64
     requires radicand_bound { radicand < 2 ^ 54 }

@@ -8,8 +8,8 @@ use square_root_bits::kernel::bits_or_zero;
 use square_root_digits::kernel::{HIDDEN, SIGN, Significand};
 use square_root_digits_test::kernel::digits_test;
 
-// Whether y is the square root of x, said by the sign bit of the result. It is clear too for an x that is not above zero, is subnormal or
-// infinite. Every value takes the same way, so that several are tested at once.
+// Whether y is the square root of x, said by the sign bit of the result, as `digits_test` says it. It is clear too for an x that is not above zero, is
+// subnormal or infinite. There is no branch, so that several values are tested at once.
 pub fn root_test(x: f64, y: f64) -> u64
     ensures { 2 ^ 63 ≤ result → y ≡ square_root binary64 x }
 {

@@ -1,5 +1,5 @@
 -- The images of a vector's elements, written block by block: within a work slice, or from one list to another. Assumes nothing.
-use mathlib.Core.Path.{◌≡◌, refl, sym, ap, ◌∙◌}
+use mathlib.Core.Path.{◌≡◌, refl, sym, ap, ◌∙◌, subst}
 use mathlib.Core.List.{List, map, ◌++◌, map-append}
 use Prim.Native.Nat.{ℕ, ◌+◌, ◌-◌, ◌≤◌}
 use native.Mathlib.Omega.{arith}
@@ -10,7 +10,8 @@ use Rattle.scratch.specs.Parts.{part, put}
 use Rattle.scratch.proofs.Parts.{length_part, length-put, put-append, put_whole, image-placed}
 
 module _ (f : Float → Float) where
-  images : (s n : ℕ) (x : List Float) → s + n ≤ length x → length (map f (part s n x)) ≡ n
+  -- the images of the n elements from s on are n
+  pub images : (s n : ℕ) (x : List Float) → s + n ≤ length x → length (map f (part s n x)) ≡ n
   images s n x h = length-map (part s n x) f ∙ length_part s n x h
 
   -- the images of the first `done` elements of the vector at s are written at `at`, and then those of the next `size` behind them
@@ -53,6 +54,12 @@ module _ (f : Float → Float) where
               ∙ ap (λ (k : ℕ). put target (map f (part source k x)) w) whole;
           length-kept = ap length e ∙ length-put (target + done) (map f (part (source + done) size x)) w' ∙ before.length-kept;
         }
+
+  -- the same, where the place up to which they are written has another name
+  pub imaged-same : {x w : List Float} {n source target done end : ℕ} {w' : List Float} → done ≡ end
+      → Imaged x w n source target done w'
+      → Imaged x w n source target end w'
+  imaged-same {x} {w} {n} {source} {target} {w' = w'} e before = subst (λ (k : ℕ). Imaged x w n source target k w') e before
 
   pub imaged-all : {x w : List Float} {n source target done : ℕ} {w' : List Float} → Imaged x w n source target done w' → n ≤ done
       → w' ≡ put target (map f (part source n x)) w

@@ -9,17 +9,17 @@ use square_roots_blocks::kernel::block_into_slice;
 // How many roots make up a block: so many that its passes are long, and so few that a third pass over them costs little.
 const BLOCK: usize = 256;
 
-// The square roots of src's elements, to dst.
+// The square roots of src's elements, to dst. Two slices of one length, here and in the crates below, are two arguments, as those of `copy_from_slice`:
+// a struct of both would be made at one place and taken apart at the next.
 pub fn sqrt_into_slice(src: &[f64], dst: &mut [f64])
     requires { length dst.old ≡ length src.now }
     ensures { dst.new ≡ map (square_root binary64) src.now }
 {
     let count = src.len();
-    let mut done = 0;
-    while done < count {
+    // By place: after a loop over `dst.chunks_mut(BLOCK)` nothing can be proved of dst's elements.
+    for done in (0..count).step_by(BLOCK) {
         let end = done + BLOCK.min(count - done);
         block_into_slice(&src[done..end], &mut dst[done..end]);
-        done = end;
     }
 }
 

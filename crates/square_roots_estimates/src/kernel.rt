@@ -38,6 +38,7 @@ pub fn settle_into_slice(src: &[f64], dst: &mut [f64])
     requires { length dst.old ≡ length src.now }
     ensures { dst.new ≡ map (square_root binary64) src.now }
 {
+    // By `enumerate`: in a loop over `dst.iter_mut().zip(src)` an invariant has each element as it was lent, and not as it was left.
     for (i, y) in dst.iter_mut().enumerate() {
         *y = root_near(src[i], *y);
     }

@@ -1,5 +1,6 @@
 // Steps of order 4 on graphs with node weights (varcoef_magnus_graph.rs; 01, parts 7 and 8): a step takes two samples, each with its own n, row
-// starts, columns and values, and the weights a1 and a2 of the nodes at the two sample times.
+// starts, columns and values, and the weights of the nodes at the two sample times.
+// The parameters are those of the Rust's call and of the C interface's: a struct of some of them would be made at each call to be taken apart here.
 #![tactic(auto)]
 
 ghost use Rattle.magnus_graph_outcome.specs.StepOutcome.{forward, adjoint};
@@ -9,12 +10,17 @@ ghost use Rattle.varcoef_magnus_graph_outcome.specs.StepOutcome.{step_input, Ste
 use error::Refusal;
 use graph_checks::CsrParts;
 use graph_rows::kernel::Sample;
-use magnus_graph_checks::binary64_values;
+// what a caller says of the samples' spectra, from here too
+pub use magnus_graph_checks::SpectralBound;
+use magnus_graph_checks::{Lengths, binary64_values};
 use magnus_graph_helpers::factors::Factors;
+// what a caller lends of the nodes' weights, from here too
+pub use varcoef_magnus_graph_checks::NodeWeights;
 use varcoef_magnus_graph_step::kernel::step4_la;
 use varcoef_magnus_graph_step_checks::check_weighted_step;
 
-// The literal for √3/12 of the weighted steps; its bits are those of sqrt3_over12 in specs/WeightedOmega4.antt.
+// The literal for √3/12 of the weighted steps; its bits are those of sqrt3_over12 in
+// varcoef_magnus_graph_outcome's specs/WeightedOmega4.antt.
 pub const SQRT3_OVER_12_F64: f64 = 0.144_337_567_297_406_45;
 
 // The forward step: dst becomes exp(Ω)·src by the Taylor sum of degree 4. Refused by rows 6 and 1 to 5 of each sample, 9, 12, 7, 8, 10 for the
@@ -24,11 +30,8 @@ pub fn apply_exp_omega4_la_kernel(
     first: CsrParts<'_>,
     second: CsrParts<'_>,
     tau: f64,
-    rho_bar_max: f64,
-    a_sup_max: f64,
-    convergence_radius_check: bool,
-    a1: &[f64],
-    a2: &[f64],
+    bound: SpectralBound,
+    weights: NodeWeights<'_>,
     src: &[f64],
     dst: &mut [f64],
     work: &mut [f64],
@@ -36,36 +39,20 @@ pub fn apply_exp_omega4_la_kernel(
     ensures { Stepped forward (step_input
         (sample_of first.entry)
         (sample_of second.entry)
-        tau rho_bar_max a_sup_max convergence_radius_check a1.now a2.now
-        src.now dst.old work.old)
+        tau bound.rho_bar_max weights.entry.a_sup_max bound.convergence_radius_check
+        weights.entry.first.now weights.entry.second.now src.now dst.old work.old)
         result dst.new work.new }
 {
-    step(
-        1.0,
-        first,
-        second,
-        tau,
-        rho_bar_max,
-        a_sup_max,
-        convergence_radius_check,
-        a1,
-        a2,
-        src,
-        dst,
-        work,
-    )
+    step(1.0, first, second, tau, bound, weights, src, dst, work)
 }
 
-// The adjoint step: the same with the commutator's sign reversed.
+// The adjoint step: the same with the commutator's sign reversed. The C interface has a call of its own for it.
 pub fn apply_exp_omega4_la_adj_kernel(
     first: CsrParts<'_>,
     second: CsrParts<'_>,
     tau: f64,
-    rho_bar_max: f64,
-    a_sup_max: f64,
-    convergence_radius_check: bool,
-    a1: &[f64],
-    a2: &[f64],
+    bound: SpectralBound,
+    weights: NodeWeights<'_>,
     src: &[f64],
     dst: &mut [f64],
     work: &mut [f64],
@@ -73,24 +60,11 @@ pub fn apply_exp_omega4_la_adj_kernel(
     ensures { Stepped adjoint (step_input
         (sample_of first.entry)
         (sample_of second.entry)
-        tau rho_bar_max a_sup_max convergence_radius_check a1.now a2.now
-        src.now dst.old work.old)
+        tau bound.rho_bar_max weights.entry.a_sup_max bound.convergence_radius_check
+        weights.entry.first.now weights.entry.second.now src.now dst.old work.old)
         result dst.new work.new }
 {
-    step(
-        -1.0,
-        first,
-        second,
-        tau,
-        rho_bar_max,
-        a_sup_max,
-        convergence_radius_check,
-        a1,
-        a2,
-        src,
-        dst,
-        work,
-    )
+    step(-1.0, first, second, tau, bound, weights, src, dst, work)
 }
 
 // The step with the commutator's sign.
@@ -99,11 +73,8 @@ fn step(
     first: CsrParts<'_>,
     second: CsrParts<'_>,
     tau: f64,
-    rho_bar_max: f64,
-    a_sup_max: f64,
-    convergence_radius_check: bool,
-    a1: &[f64],
-    a2: &[f64],
+    bound: SpectralBound,
+    weights: NodeWeights<'_>,
     src: &[f64],
     dst: &mut [f64],
     work: &mut [f64],
@@ -111,28 +82,19 @@ fn step(
     ensures { Stepped sign (step_input
         (sample_of first.entry)
         (sample_of second.entry)
-        tau rho_bar_max a_sup_max convergence_radius_check a1.now a2.now
-        src.now dst.old work.old)
+        tau bound.rho_bar_max weights.entry.a_sup_max bound.convergence_radius_check
+        weights.entry.first.now weights.entry.second.now src.now dst.old work.old)
         result dst.new work.new }
 {
-    let checked = check_weighted_step(
-        first,
-        second,
-        tau,
-        rho_bar_max,
-        a_sup_max,
-        convergence_radius_check,
-        src.len(),
-        dst.len(),
-        a1,
-        a2,
-        work.len(),
-    );
+    let lengths = Lengths::of(src, dst, work);
+    let checked = check_weighted_step(first, second, tau, bound, weights, lengths);
     let Ok(()) = checked else {
         return checked;
     };
     binary64_values(first.vals);
     binary64_values(second.vals);
+    binary64_values(weights.first);
+    binary64_values(weights.second);
     let factors = Factors {
         tau,
         sign,
@@ -141,8 +103,8 @@ fn step(
     step4_la(
         Sample::from_parts(first),
         Sample::from_parts(second),
-        a1,
-        a2,
+        weights.first,
+        weights.second,
         factors,
         src,
         dst,

@@ -1,5 +1,6 @@
 // The checks of the weighted adjoint run (the validations of its driver in magnus_graph_adjoint.rs), in document 01's order, before any step.
 // Every function answers what its definition in graph_traj_adjoint_faults' specs/AdjointRunChecks.antt says, for all inputs.
+// The parameters are those of the call that is checked.
 #![tactic(auto)]
 
 ghost use Rattle.std.specs.Prelude.{◌≡◌};
@@ -11,50 +12,47 @@ use error::Refusal;
 use graph_traj_adjoint_checks::check_adjoint_steps;
 use graph_traj_checks::check::check_signals;
 use graph_traj_parts::{Trajectory, check_adjoint_trajectory};
-use magnus_graph_checks::check_room;
-use varcoef_magnus_graph_checks::{check_weighted_bounds, check_weights_length};
+use magnus_graph_checks::{Lengths, SpectralBound, check_room};
+use varcoef_magnus_graph_checks::{check_weighted_bounds, check_weights_length, weighted_spectra};
 
-// Row 10 of a weighted run: signal, output, the two lists of weights and the work slice.
+// Row 10 of a weighted run: signal, output, the two lists of weights and the work slice. `starts` and `ends` are the lengths of these lists.
 pub fn check_weighted_run_lengths(
     n: usize,
-    signal: usize,
-    output: usize,
     starts: usize,
     ends: usize,
-    work: usize,
+    lengths: Lengths,
     need: usize,
 ) -> Result<(), Refusal>
-    ensures { result ≡ weighted_run_lengths_fault n signal output starts ends work need }
+    ensures { result ≡ weighted_run_lengths_fault n lengths.signal lengths.output starts ends lengths.work need }
 {
-    check_signals(n, signal, output)?;
+    check_signals(n, lengths)?;
     check_weights_length(n, starts, ends)?;
-    check_room(work, need)
+    check_room(lengths.work, need)
 }
 
-// All checks of a weighted adjoint run. a_sup_max is the root bound; a_starts and a_ends are the lengths of the weights' two lists.
+// All checks of a weighted adjoint run. a_sup_max is the root bound; a_starts and a_ends are the lengths of the weights' two lists, whose elements are
+// checked in each step. Row 8 is tested with the bound of the weighted samples' spectra.
 pub fn check_weighted_adjoint_run(
     trajectory: Trajectory<'_>,
     tau: f64,
     steps: usize,
-    rho_bar_max: f64,
+    bound: SpectralBound,
     a_sup_max: f64,
-    radius_check: bool,
-    signal: usize,
-    output: usize,
     a_starts: usize,
     a_ends: usize,
-    work: usize,
+    lengths: Lengths,
 ) -> Result<(), Refusal>
     ensures { result ≡ weighted_adjoint_run_fault (trajectory_of trajectory.entry)
-        tau steps rho_bar_max a_sup_max radius_check signal output a_starts a_ends work }
+        tau steps bound.rho_bar_max a_sup_max bound.convergence_radius_check
+        lengths.signal lengths.output a_starts a_ends lengths.work }
 {
     check_adjoint_trajectory(trajectory)?;
-    check_weighted_bounds(rho_bar_max, a_sup_max, trajectory.n)?;
+    check_weighted_bounds(bound.rho_bar_max, a_sup_max, trajectory.n)?;
     if steps == 0 {
-        return check_signals(trajectory.n, signal, output);
+        return check_signals(trajectory.n, lengths);
     }
-    let bound = rho_bar_max * a_sup_max * a_sup_max;
-    check_adjoint_steps(steps, tau, bound, radius_check)?;
+    let weighted = weighted_spectra(bound, a_sup_max);
+    check_adjoint_steps(steps, tau, weighted)?;
     let need = 11 * trajectory.n + 2 * trajectory.col_idx.len();
-    check_weighted_run_lengths(trajectory.n, signal, output, a_starts, a_ends, work, need)
+    check_weighted_run_lengths(trajectory.n, a_starts, a_ends, lengths, need)
 }

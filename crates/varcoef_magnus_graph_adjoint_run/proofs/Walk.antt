@@ -41,46 +41,36 @@ use Rattle.magnus_graph_traj_steps.proofs.StepsTaken.{run-along-append, refusal-
 
 -- ---- step by step
 
--- a step of law 2 whose samples lie where the segment's value says
+-- a step of law 2 that starts at t, whose samples lie at t1 and t2, the fractions f1 and f2 of the way through the segment
 module _ (n : ℕ) (row_starts cols : List ℕ) (starts ends start_weights end_weights : List Float) (first : Segment) (steps : ℕ) where
   abbrev fraction_in : Segment → Float → Float
   fraction_in s c = fraction (sample_time (adjoint_step_start s.tau steps s.step) c s.tau) s.start s.end
 
-  pub sampled-one : (j : ℕ) (segment : Segment) {answer : Checked} {w w' : List Float}
-      → segment ≡ segment_before first j
-      → StepTaken n row_starts cols segment.tau
-      (law_values (length starts) (fraction_in segment c1) starts ends)
-      (law_values (length starts) (fraction_in segment c2) starts ends)
-      (law_values (length start_weights) (fraction_in segment c1) start_weights end_weights)
-      (law_values (length start_weights) (fraction_in segment c2) start_weights end_weights) answer w w'
+  -- the step that takes its samples at these fractions
+  abbrev TakenAt : Float → Float → Float → Checked → List Float → List Float → Type 0
+  TakenAt τ f1 f2 answer w w' =
+      let m = length starts in
+      let k = length start_weights in
+      StepTaken n row_starts cols τ (law_values m f1 starts ends) (law_values m f2 starts ends)
+      (law_values k f1 start_weights end_weights) (law_values k f2 start_weights end_weights) answer w w'
+
+  pub sampled-one : (j : ℕ) (s : Segment) {t t1 t2 f1 f2 : Float} {answer : Checked} {w w' : List Float}
+      → s ≡ segment_before first j
+      → t ≡ adjoint_step_start s.tau steps s.step
+      → t1 ≡ sample_time t c1 s.tau
+      → t2 ≡ sample_time t c2 s.tau
+      → f1 ≡ fraction t1 s.start s.end
+      → f2 ≡ fraction t2 s.start s.end
+      → TakenAt s.tau f1 f2 answer w w'
       → StepsTaken (sampled_step_fault n row_starts cols starts ends start_weights end_weights first.start first.end first.tau steps)
       (sampled_step_image n row_starts cols starts ends start_weights end_weights first.start first.end first.tau steps)
       n (11 * n + 2 * length cols) (step_in 0 j ∷ []) answer w w'
-  sampled-one j segment {answer} {w} {w'} here taken =
-      let same =
-      subst (λ (s : Segment). StepTaken n row_starts cols s.tau
-      (law_values (length starts) (fraction_in s c1) starts ends)
-      (law_values (length starts) (fraction_in s c2) starts ends)
-      (law_values (length start_weights) (fraction_in s c1) start_weights end_weights)
-      (law_values (length start_weights) (fraction_in s c2) start_weights end_weights) answer w w') here taken in
+  sampled-one j s {answer = answer} {w = w} {w' = w'} here begins first-sample second-sample first-fraction second-fraction taken =
+      let p1 = first-fraction ∙ ap (λ (x : Float). fraction x s.start s.end) (first-sample ∙ ap (λ (x : Float). sample_time x c1 s.tau) begins) in
+      let p2 = second-fraction ∙ ap (λ (x : Float). fraction x s.start s.end) (second-sample ∙ ap (λ (x : Float). sample_time x c2 s.tau) begins) in
+      let placed = subst₂ (λ (x y : Float). TakenAt s.tau x y answer w w') p1 p2 taken in
+      let same = subst (λ (v : Segment). TakenAt v.tau (fraction_in v c1) (fraction_in v c2) answer w w') here placed in
       one-taken (step_in 0 j) same.answer-is same.held same.kept.length-kept same.kept.rest
-
--- a step whose samples lie at the same fractions, said otherwise
-pub sampled-at : (n : ℕ) (row_starts cols : List ℕ) (τ : Float) (starts ends start_weights end_weights : List Float) (f1 f2 g1 g2 : Float)
-    {answer : Checked} {w w' : List Float}
-    → let m = length starts in
-    let k = length start_weights in
-    f1 ≡ g1
-    → f2 ≡ g2
-    → StepTaken n row_starts cols τ (law_values m f1 starts ends) (law_values m f2 starts ends)
-    (law_values k f1 start_weights end_weights) (law_values k f2 start_weights end_weights) answer w w'
-    → StepTaken n row_starts cols τ (law_values m g1 starts ends) (law_values m g2 starts ends)
-    (law_values k g1 start_weights end_weights) (law_values k g2 start_weights end_weights) answer w w'
-sampled-at n row_starts cols τ starts ends start_weights end_weights f1 f2 g1 g2 {answer} {w} {w'} p q taken =
-    subst₂
-    (λ (x y : Float). StepTaken n row_starts cols τ (law_values (length starts) x starts ends) (law_values (length starts) y starts ends)
-    (law_values (length start_weights) x start_weights end_weights) (law_values (length start_weights) y start_weights end_weights) answer w w')
-    p q taken
 
 -- ---- one list for all steps
 

@@ -12,57 +12,27 @@ ghost use Rattle.magnus_graph_helpers.specs.Terms.{TermsAdded};
 ghost use Rattle.varcoef_magnus_graph_taylor_term.specs.WeightedOmega4.{weighted_omega4};
 ghost use Rattle.magnus_graph_outcome.specs.StepOutcome.{adjoint};
 ghost use Rattle.varcoef_magnus_graph_faults.specs.WeightedStepChecks.{weight_fault};
-ghost use Rattle.graph_traj_segment.specs.Times.{fraction};
-ghost use Rattle.graph_traj_laws.specs.Laws.{law_values};
-ghost use Rattle.graph_traj_segment.specs.Times.{c1, c2, adjoint_step_start, sample_time};
 ghost use Rattle.graph_traj_parts.specs.Trajectory.{trajectory_of, AcceptedAdjointTrajectory};
 ghost use Rattle.magnus_graph_traj_steps.specs.RunSteps.{segment_steps, adjoint_course};
-ghost use Rattle.varcoef_magnus_graph_traj_step.specs.StepTaken.{StepTaken, step_image};
+ghost use Rattle.varcoef_magnus_graph_traj_step.specs.StepTaken.{step_image};
 ghost use Rattle.magnus_graph_traj_steps.specs.StepsTaken.{StepsTaken};
 ghost use Rattle.varcoef_magnus_graph_traj_steps.specs.SampledSteps.{sampled_step_fault, sampled_step_image};
 ghost use Rattle.varcoef_magnus_graph_traj_steps.specs.WeightedRunSteps.{weighted_run_step_fault, weighted_run_step_image};
 
 use error::Refusal;
+use graph_pairs::paired::Pair;
 use graph_rows::kernel::{Pattern, Sample};
-use graph_traj_laws::kernel::law_list;
+use graph_traj_laws::kernel::EndLists;
 use graph_traj_parts::Trajectory;
 use graph_traj_segment::kernel::Segment;
 use magnus_graph_helpers::factors::Factors;
 use magnus_graph_taylor::kernel::taylor_sum;
 use square_roots::kernel::sqrt_into_slice;
 use varcoef_magnus_graph::SQRT3_OVER_12_F64;
-use varcoef_magnus_graph_checks::check_sample_weights;
+use varcoef_magnus_graph_checks::{NodeWeights, check_sample_weights};
 use varcoef_magnus_graph_products::kernel::WeightedSample;
 use varcoef_magnus_graph_traj_constant::kernel::ConstantWeightedOmega4;
 use varcoef_magnus_graph_traj_step::kernel::{SegmentLists, sampled_step};
-
-// The step that comes next in a segment of law 2, in an adjoint run of so many steps.
-fn sampled_step_at(
-    lists: SegmentLists<'_>,
-    segment: Segment,
-    steps: usize,
-    work: &mut [f64],
-) -> Result<(), Refusal>
-    requires room { 11 * lists.pattern.n + 2 * length lists.pattern.col_idx.now ≤ length work.old }
-    requires step_lt_steps { (segment.step < steps) × (steps ≤ 65535) }
-    ensures { let l = lists.entry in
-        let m = length l.starts.now in
-        let k = length l.a_starts.now in
-        let start = adjoint_step_start segment.tau steps segment.step in
-        let f1 = fraction (sample_time start c1 segment.tau) segment.start segment.end in
-        let f2 = fraction (sample_time start c2 segment.tau) segment.start segment.end in
-        StepTaken l.pattern.n l.pattern.row_ptr.now l.pattern.col_idx.now segment.tau
-        (law_values m f1 l.starts.now l.ends.now)
-        (law_values m f2 l.starts.now l.ends.now)
-        (law_values k f1 l.a_starts.now l.a_ends.now)
-        (law_values k f2 l.a_starts.now l.a_ends.now)
-        result work.old work.new }
-{
-    let t_start = segment.adjoint_step_start(steps);
-    let fraction1 = segment.fraction(segment.first_sample(t_start));
-    let fraction2 = segment.fraction(segment.second_sample(t_start));
-    sampled_step(lists, segment.tau, fraction1, fraction2, work)
-}
 
 // All steps in a segment of law 2, the last first; the loop stops at the first step that refuses.
 fn sampled_steps(
@@ -72,19 +42,26 @@ fn sampled_steps(
     work: &mut [f64],
 ) -> Result<(), Refusal>
     requires room { 11 * lists.pattern.n + 2 * length lists.pattern.col_idx.now ≤ length work.old }
-    requires step_value { (first.step ≡ 0) × (steps ≤ 65535) }
+    requires first_step { first.step ≡ 0 }
     ensures { let l = lists.entry in
         let p = l.pattern in
+        let v = l.values in
+        let a = l.weights in
         StepsTaken
-        (sampled_step_fault p.n p.row_ptr.now p.col_idx.now l.starts.now l.ends.now
-        l.a_starts.now l.a_ends.now first.start first.end first.tau steps)
-        (sampled_step_image p.n p.row_ptr.now p.col_idx.now l.starts.now l.ends.now
-        l.a_starts.now l.a_ends.now first.start first.end first.tau steps)
+        (sampled_step_fault p.n p.row_ptr.now p.col_idx.now v.start.now v.end.now
+        a.start.now a.end.now first.start first.end first.tau steps)
+        (sampled_step_image p.n p.row_ptr.now p.col_idx.now v.start.now v.end.now
+        a.start.now a.end.now first.start first.end first.tau steps)
         p.n (11 * p.n + 2 * length p.col_idx.now) (segment_steps 0 steps) result work.old work.new }
 {
     let mut segment = first;
     for _ in 0..steps {
-        sampled_step_at(lists, segment, steps, work)?;
+        let t_start = segment.adjoint_step_start(steps);
+        let fractions = Pair {
+            first: segment.fraction(segment.first_sample(t_start)),
+            second: segment.fraction(segment.second_sample(t_start)),
+        };
+        sampled_step(lists, segment.tau, fractions, work)?;
         segment = segment.next();
     }
     Ok(())
@@ -128,7 +105,7 @@ fn constant_steps(
     steps: usize,
     work: &mut [f64],
 ) -> Result<(), Refusal>
-    requires a_len { (length a.now ≡ sample.pattern.n) × (0 < steps) × (steps ≤ 65535) }
+    requires a_len { (length a.now ≡ sample.pattern.n) × (0 < steps) }
     requires room { 11 * sample.pattern.n + 2 * length sample.pattern.col_idx.now ≤ length work.old }
     ensures { let p = sample.entry.pattern in
         let x = sample.entry.vals.now in
@@ -149,49 +126,65 @@ fn constant_steps(
     Ok(())
 }
 
-// All steps of the run, by the law of its segment.
-pub fn run_steps<'a>(
-    trajectory: Trajectory<'a>,
+// A trajectory and the weights at the start and at the end of its one segment, whose checks have accepted: what the steps of a run take.
+#[derive(Clone, Copy)]
+pub struct CheckedWeightedTrajectory<'a> {
+    pub parts: Trajectory<'a>,
+    pub weights: NodeWeights<'a>,
+    pub ghost accepted: { AcceptedAdjointTrajectory (trajectory_of parts) },
+    pub ghost weights_len: { (length weights.first.now ≡ parts.n) × (length weights.second.now ≡ parts.n) },
+}
+
+// All steps of the run, by the law of its segment: steps of law 2 sample their lists anew, and those of the other laws have one list and roots that are
+// taken once. A closure for the steps would only move the test of the law.
+pub fn run_steps(
+    along: CheckedWeightedTrajectory<'_>,
     tau: f64,
     steps: usize,
-    a_starts: &'a [f64],
-    a_ends: &'a [f64],
     work: &mut [f64],
 ) -> Result<(), Refusal>
-    requires accepted { AcceptedAdjointTrajectory (trajectory_of trajectory) }
-    requires a_starts_len { (length a_starts.now ≡ trajectory.n) × (length a_ends.now ≡ trajectory.n) }
-    requires steps_nonzero { (0 < steps) × (steps ≤ 65535)
-        × (11 * trajectory.n + 2 * length trajectory.col_idx.now ≤ length work.old) }
-    ensures { let t = trajectory_of trajectory.entry in
+    requires { (0 < steps) × (11 * along.parts.n + 2 * length along.parts.col_idx.now ≤ length work.old) }
+    ensures { let t = trajectory_of along.entry.parts in
+        let a = along.entry.weights in
         let course = adjoint_course tau steps in
-        StepsTaken (weighted_run_step_fault t a_starts.now a_ends.now course)
-        (weighted_run_step_image t a_starts.now a_ends.now course adjoint)
+        StepsTaken (weighted_run_step_fault t a.first.now a.second.now course)
+        (weighted_run_step_image t a.first.now a.second.now course adjoint)
         t.nodes (11 * t.nodes + 2 * length t.cols) course.steps result work.old work.new }
 {
-    let pattern = Pattern {
-        n: trajectory.n,
-        row_ptr: trajectory.row_ptr,
-        col_idx: trajectory.col_idx,
-    };
     let Trajectory {
+        n,
+        row_ptr,
+        col_idx,
         breakpoints,
         starts,
         ends,
+        laws,
         ..
-    } = trajectory;
-    let law = trajectory.laws[0];
+    } = along.parts;
+    let pattern = Pattern {
+        n,
+        row_ptr,
+        col_idx,
+    };
+    let values = EndLists {
+        start: starts,
+        end: ends,
+    };
+    let weights = EndLists {
+        start: along.weights.first,
+        end: along.weights.second,
+    };
+    let law = laws[0];
     if law == 2 {
         let lists = SegmentLists {
             pattern,
-            starts,
-            ends,
-            a_starts,
-            a_ends,
+            values,
+            weights,
         };
         let first = Segment::with_tau(breakpoints[0], breakpoints[1], tau);
         return sampled_steps(lists, first, steps, work);
     }
-    let vals = law_list(law, starts, ends, 0, pattern.col_idx.len());
-    let a = law_list(law, a_starts, a_ends, 0, pattern.n);
+    let vals = values.law_list(law);
+    let a = weights.law_list(law);
     constant_steps(Sample { pattern, vals }, a, tau, steps, work)
 }

@@ -7,10 +7,30 @@ ghost use Rattle.float.specs.All.{all};
 ghost use Rattle.magnus_graph_faults.specs.StepChecks.{not_positive};
 ghost use Rattle.varcoef_magnus_graph_faults.specs.WeightedStepChecks.{no_nodes_fault, weights_length_fault};
 ghost use Rattle.varcoef_magnus_graph_faults.specs.WeightedStepChecks.{sample_weights_fault, weighted_bounds_fault};
-ghost use Rattle.varcoef_magnus_graph_faults.specs.WeightedStepChecks.{weight_fault};
+ghost use Rattle.varcoef_magnus_graph_faults.specs.WeightedStepChecks.{weight_fault, weighted_bound};
 
 use error::Refusal;
-use magnus_graph_checks::{check_bound, is_positive};
+use magnus_graph_checks::{SpectralBound, check_bound, is_positive};
+
+// What a caller lends of the nodes' weights: those at the two sample times of a step, or those at the start and at the end of a run's segment, and
+// the bound of their square roots. Nothing of them has been checked.
+#[derive(Clone, Copy)]
+pub struct NodeWeights<'a> {
+    pub a_sup_max: f64,
+    pub first: &'a [f64],
+    pub second: &'a [f64],
+}
+
+// What row 8 of a weighted form takes for the samples' spectra: the bound with the nodes' weights, whose roots have the bound a_sup_max.
+pub fn weighted_spectra(bound: SpectralBound, a_sup_max: f64) -> SpectralBound
+    ensures { (result.rho_bar_max ≡ weighted_bound bound.rho_bar_max a_sup_max)
+        × (result.convergence_radius_check ≡ bound.convergence_radius_check) }
+{
+    SpectralBound {
+        rho_bar_max: bound.rho_bar_max * a_sup_max * a_sup_max,
+        ..bound
+    }
+}
 
 // Row 12, of a weighted form: there are nodes.
 pub fn check_nodes(n: usize) -> Result<(), Refusal>

@@ -1,5 +1,5 @@
--- Ωv of order 4 as the second walk of a term forms it, place by place, of the pairs that lie in the work slice. Assumes nothing.
-use mathlib.Core.Path.{◌≡◌, sym, ◌∙◌}
+-- Ωv of order 4 as the second walk of a term forms it, place by place. Assumes nothing.
+use mathlib.Core.Path.{◌≡◌, sym, ap, ◌∙◌}
 use mathlib.Core.List.{List}
 use Prim.Native.Nat.{ℕ, ◌+◌, ◌*◌, ◌<◌}
 use lib.ListN.{length}
@@ -10,10 +10,17 @@ use Rattle.graph_rows.specs.RowProduct.{row_sum64, row_product64}
 use Rattle.graph_pairs.specs.Pairs.{firsts, seconds}
 use Rattle.graph_pairs.proofs.Pairs.{at-firsts, at-seconds, omega-place}
 use Rattle.magnus_graph_helpers.specs.Terms.{omega4_sum}
-use Rattle.varcoef_magnus_graph_pairs.proofs.Walks.{omega-at}
+use Rattle.magnus_graph_helpers.proofs.Terms.{omega4_sum_at, omega4-sum-walk}
 
 abbrev A : Arithmetic Float
 A = ieee binary64
+
+-- Ωv by its places
+module _ {K : Type 0} (A : Arithmetic K) (n : ℕ) (scale comm_scale : K) (a b c d : List K) where
+  omega-at : (i : ℕ) → i < n → at A (omega4_sum A n scale comm_scale a b c d) i ≡ omega4_sum_at A scale comm_scale a b c d i
+  omega-at i h =
+      ap (λ x. at A x i) (sym (omega4-sum-walk A n scale comm_scale a b c d))
+      ∙ at-tabulate A (omega4_sum_at A scale comm_scale a b c d) n i h
 
 -- x are the values, r the roots, p the pairs of a and b, and s those of r1 · b and r2 · a
 module _ (n : ℕ) (row_starts cols : List ℕ) (x r p s : List Float) (scale comm_scale : Float) where

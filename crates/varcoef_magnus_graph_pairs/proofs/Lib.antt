@@ -1,4 +1,4 @@
-pub mod Walks
-pub mod Turns
+pub mod Chunks
 pub mod Formed
+pub mod Walks
 pub mod WeightedPairs

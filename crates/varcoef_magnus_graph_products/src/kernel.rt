@@ -28,6 +28,7 @@ impl<'a, 'r> WeightedSample<'a, 'r> {
             let n = self.entry.sample.pattern.n in
             work.new ≡ put target (multiplied (ieee binary64) n self.entry.roots.now (part source n w)) w }
     {
+        // By index: the two vectors lie in one slice, and a zip of three lists would be no plainer than their places.
         for (i, root) in self.roots.iter().enumerate() {
             work[target + i] = *root * work[source + i];
         }
@@ -51,7 +52,8 @@ impl<'a, 'r> WeightedSample<'a, 'r> {
     }
 
     // The weighted product (01, part 5; `apply_la_on_slice` of the Rust) with the vector at `source`, to `target`; both are
-    // among the first five vectors, and the scaled signal is written to 5n.
+    // among the first five vectors, and the scaled signal is written to 5n. A call of its own, so that its loops have all registers.
+    #[inline(never)]
     pub fn product_in(self, work: &mut [f64], source: usize, target: usize)
         requires room { 6 * self.sample.pattern.n ≤ length work.old }
         requires source_in_bounds { source + self.sample.pattern.n ≤ 5 * self.sample.pattern.n }

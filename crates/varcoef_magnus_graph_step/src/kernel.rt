@@ -18,7 +18,7 @@ use varcoef_magnus_graph_products::kernel::WeightedSample;
 use varcoef_magnus_graph_taylor_term::kernel::WeightedOmega4;
 
 // One weighted step of order 4 (01, part 7): dst becomes the step's answer for the signal src, and the first 9n elements
-// of work become +0.
+// of work become +0. Why the calls about the sum are no function that all steps share, `magnus_graph_step::kernel::step4` tells.
 pub fn step4_la<'a>(
     first: Sample<'a>,
     second: Sample<'a>,

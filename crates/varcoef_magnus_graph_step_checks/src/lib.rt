@@ -1,5 +1,6 @@
 // All checks of a weighted step of order 4 (the validation of the driver in varcoef_magnus_graph.rs), in document 01's order. It answers what its
 // definition in varcoef_magnus_graph_faults' specs/WeightedStepChecks.antt says, for all inputs.
+// The parameters are those of the call that is checked.
 #![tactic(auto)]
 
 ghost use Rattle.std.specs.Prelude.{◌≡◌};
@@ -8,35 +9,34 @@ ghost use Rattle.varcoef_magnus_graph_faults.specs.WeightedStepChecks.{weighted_
 
 use error::Refusal;
 use graph_checks::CsrParts;
-use magnus_graph_checks::{check_lengths, check_room, check_step_length};
+use magnus_graph_checks::{Lengths, SpectralBound, check_lengths, check_room, check_step_length};
 use magnus_graph_step_checks::check_samples;
-use varcoef_magnus_graph_checks::{check_weighted_bounds, check_weights, check_weights_length};
+use varcoef_magnus_graph_checks::{
+    NodeWeights, check_weighted_bounds, check_weights, check_weights_length, weighted_spectra,
+};
 
-// All checks of a weighted step. rho_bar_max is the spectral bound and a_sup_max the root bound, a1 and a2 are the samples'
-// weights; signal, output and work are lengths.
+// All checks of a weighted step. Row 8 is tested with the bound of the weighted samples' spectra.
 pub fn check_weighted_step(
     first: CsrParts<'_>,
     second: CsrParts<'_>,
     tau: f64,
-    rho_bar_max: f64,
-    a_sup_max: f64,
-    radius_check: bool,
-    signal: usize,
-    output: usize,
-    a1: &[f64],
-    a2: &[f64],
-    work: usize,
+    bound: SpectralBound,
+    weights: NodeWeights<'_>,
+    lengths: Lengths,
 ) -> Result<(), Refusal>
     ensures { result ≡ weighted_step_fault
         (sample_of first.entry)
         (sample_of second.entry)
-        tau rho_bar_max a_sup_max radius_check signal output a1.now a2.now work }
+        tau bound.rho_bar_max weights.entry.a_sup_max bound.convergence_radius_check
+        lengths.signal lengths.output weights.entry.first.now weights.entry.second.now lengths.work }
 {
     check_samples(first, second)?;
-    check_weighted_bounds(rho_bar_max, a_sup_max, first.n)?;
-    check_step_length(tau, rho_bar_max * a_sup_max * a_sup_max, radius_check)?;
-    check_lengths(first.n, second.n, signal, output)?;
-    check_weights_length(first.n, a1.len(), a2.len())?;
-    check_room(work, 9 * first.n)?;
-    check_weights(a1, a2)
+    let a_sup_max = weights.a_sup_max;
+    check_weighted_bounds(bound.rho_bar_max, a_sup_max, first.n)?;
+    let weighted = weighted_spectra(bound, a_sup_max);
+    check_step_length(tau, weighted)?;
+    check_lengths(first.n, second.n, lengths)?;
+    check_weights_length(first.n, weights.first.len(), weights.second.len())?;
+    check_room(lengths.work, 9 * first.n)?;
+    check_weights(weights.first, weights.second)
 }

@@ -19,42 +19,15 @@ use magnus_graph_taylor::kernel::Omega;
 use scratch_scaled_sums::kernel::add_scaled;
 use varcoef_magnus_graph_products::kernel::WeightedSample;
 
-// Ω of order 4 of two samples with weights, each with a pattern of its own.
+// Ω of order 4 of two samples with weights, each with a pattern of its own. It is no one struct with `Omega4` (magnus_graph_term): a weighted product
+// leaves a scaled signal at 5n, so that Ω uses 6n of the work slice with weights, and without them 5n, or 3n where both samples are one. A trait of the
+// two products would have to name this part, and that the vectors lie within it, beside n and the image: as much as the two structs say.
 #[derive(Clone, Copy)]
 pub struct WeightedOmega4<'a, 'r> {
     pub first: WeightedSample<'a, 'r>,
     pub second: WeightedSample<'a, 'r>,
     pub factors: Factors,
     pub ghost same_nodes: { second.sample.pattern.n ≡ first.sample.pattern.n },
-}
-
-impl<'a, 'r> WeightedOmega4<'a, 'r> {
-    ghost use Rattle.varcoef_magnus_graph_products.specs.WeightedProduct.{with_product};
-
-    // The weighted product of the first sample with the vector at `source1`, to `target1`, and then that of the second sample with the vector at
-    // `source2`, to `target2`: a function of its own, so that the four products of a term are compiled as two calls, with all registers for their loops.
-    fn two_products_in(
-        self,
-        work: &mut [f64],
-        source1: usize,
-        target1: usize,
-        source2: usize,
-        target2: usize,
-    )
-        requires room { 6 * self.first.sample.pattern.n ≤ length work.old }
-        requires source1_in_bounds { source1 + self.first.sample.pattern.n ≤ 5 * self.first.sample.pattern.n }
-        requires target1_in_bounds { target1 + self.first.sample.pattern.n ≤ 5 * self.first.sample.pattern.n }
-        requires source2_in_bounds { source2 + self.first.sample.pattern.n ≤ 5 * self.first.sample.pattern.n }
-        requires target2_in_bounds { target2 + self.first.sample.pattern.n ≤ 5 * self.first.sample.pattern.n }
-        ensures { let A = ieee binary64 in
-            let first = self.entry.first in
-            let second = self.entry.second in
-            let w1 = with_product A first.sample.pattern.n (product_of first.sample) first.roots.now source1 target1 work.old in
-            work.new ≡ with_product A second.sample.pattern.n (product_of second.sample) second.roots.now source2 target2 w1 }
-    {
-        self.first.product_in(work, source1, target1);
-        self.second.product_in(work, source2, target2);
-    }
 }
 
 impl<'a, 'r> Omega for WeightedOmega4<'a, 'r> {
@@ -76,8 +49,10 @@ impl<'a, 'r> Omega for WeightedOmega4<'a, 'r> {
         let a = 2 * n;
         let b = 3 * n;
         let c = 4 * n;
-        self.two_products_in(work, n, a, n, b);
-        self.two_products_in(work, b, n, a, c);
+        self.first.product_in(work, n, a);
+        self.second.product_in(work, n, b);
+        self.first.product_in(work, b, n);
+        self.second.product_in(work, a, c);
         omega_sum(work, n, a, b, c, n, self.factors);
         add_scaled(work, n, coefficient, n, 0);
     }

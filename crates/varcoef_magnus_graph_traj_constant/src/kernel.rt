@@ -17,7 +17,8 @@ use magnus_graph_taylor::kernel::Omega;
 use scratch_scaled_sums::kernel::add_scaled;
 use varcoef_magnus_graph_products::kernel::WeightedSample;
 
-// Ω of order 4 where both samples, and their weights, are one.
+// Ω of order 4 where both samples, and their weights, are one. It is no one struct with `ConstantOmega4` (magnus_graph_traj_terms), for what is said at
+// `WeightedOmega4` (varcoef_magnus_graph_taylor_term).
 #[derive(Clone, Copy)]
 pub struct ConstantWeightedOmega4<'a, 'r> {
     pub both: WeightedSample<'a, 'r>,

@@ -1,5 +1,5 @@
 pub mod Terms
 pub mod Turns
+pub mod Split
 pub mod Kept
 pub mod SampledStep
-pub mod WeightRoots

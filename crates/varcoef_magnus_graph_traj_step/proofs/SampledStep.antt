@@ -3,14 +3,13 @@
 use mathlib.Core.Path.{◌≡◌, refl, sym, ap, ◌∙◌}
 use mathlib.Core.List.{List, map}
 use Prim.Native.Nat.{ℕ, ◌+◌, ◌*◌, ◌≤◌}
-use native.Mathlib.Nat.{zero-mul}
 use native.Mathlib.Omega.{arith}
 use lib.ListN.{length, take, length-map, get_or-map}
 use lib.Ieee.{Float, binary64, nan}
 use Rattle.arithmetic.specs.Arithmetic.{Arithmetic, ieee}
 use Rattle.arithmetic.proofs.Tabulate.{length-tabulate, tabulate-same}
 use Rattle.scratch.specs.Parts.{part, put}
-use Rattle.scratch.proofs.Parts.{Wrote, wrote, length_part, part-whole, part-of-put-before}
+use Rattle.scratch.proofs.Parts.{Wrote, wrote, length_part, part-of-put-before}
 use Rattle.ieee_square_root.specs.SquareRoot.{square_root}
 use Rattle.square_roots_estimates.proofs.Roots.{roots-of}
 use Rattle.error.specs.Checks.{next}
@@ -42,15 +41,6 @@ A = ieee binary64
 abbrev root : Float → Float
 root = square_root binary64
 
--- the lists of the one segment are the whole pools
-pub whole-pool : (m : ℕ) (pool : List Float) → length pool ≡ m → part (0 * m) m pool ≡ pool
-whole-pool m pool size = ap (λ (k : ℕ). part k m pool) (zero-mul m) ∙ ap (λ (k : ℕ). part 0 k pool) (sym size) ∙ part-whole pool
-
-whole-values : (m : ℕ) (f : Float) (starts ends : List Float) → length starts ≡ m → length ends ≡ m
-    → law_values m f (part (0 * m) m starts) (part (0 * m) m ends) ≡ law_values (length starts) f starts ends
-whole-values m f starts ends size-starts size-ends =
-    λ i. law_values (sym size-starts i) f (whole-pool m starts size-starts i) (whole-pool m ends size-ends i)
-
 -- the roots of pairs are the pairs of the roots
 first-roots : (n : ℕ) (x : List Float) → firsts A n (map root x) ≡ map root (firsts A n x)
 unfolding square_root
@@ -66,7 +56,7 @@ second-roots n x =
 
 -- starts and ends are the lists of the values and a_starts and a_ends those of the weights
 module _ (n : ℕ) (row_starts cols : List ℕ) (τ f1 f2 : Float) (starts ends a_starts a_ends w w₁ : List Float) (r : Checked)
-    (sizes : (length starts ≡ length cols) × (length ends ≡ length cols)) (size-a : length a_starts ≡ n)
+    (size-x : length starts ≡ length cols) (size-a : length a_starts ≡ n)
     (room : 11 * n + 2 * length cols ≤ length w) where
   abbrev m : ℕ
   m = length cols
@@ -74,16 +64,9 @@ module _ (n : ℕ) (row_starts cols : List ℕ) (τ f1 f2 : Float) (starts ends 
   abbrev need : ℕ
   need = 11 * n + 2 * m
 
-  -- the segment's lists
-  abbrev s : List Float
-  s = part (0 * m) m starts
-
-  abbrev e : List Float
-  e = part (0 * m) m ends
-
   -- the values of the two samples, as pairs and each
   abbrev x : List Float
-  x = law_pairs m f1 f2 s e
+  x = law_pairs (length starts) f1 f2 starts ends
 
   abbrev x1 : List Float
   x1 = law_values (length starts) f1 starts ends
@@ -101,29 +84,20 @@ module _ (n : ℕ) (row_starts cols : List ℕ) (τ f1 f2 : Float) (starts ends 
   abbrev a2 : List Float
   a2 = law_values (length a_starts) f2 a_starts a_ends
 
-  one : law_values m f1 s e ≡ x1
-  one = whole-values m f1 starts ends sizes.0 sizes.1
-
-  two : law_values m f2 s e ≡ x2
-  two = whole-values m f2 starts ends sizes.0 sizes.1
-
   size-values : length x ≡ 2 * m
-  size-values = length-tabulate _ (2 * m)
+  size-values = length-tabulate _ (2 * length starts) ∙ ap (λ (k : ℕ). 2 * k) size-x
 
   size-weights : length a ≡ 2 * n
   size-weights = length-tabulate _ (2 * length a_starts) ∙ ap (λ (k : ℕ). 2 * k) size-a
 
-  module _ (sampled : (r ≡ next (sampled_fault (law_values m f1 s e)) (sampled_fault (law_values m f2 s e))) × (w₁ ≡ put (11 * n) x w)) where
-    answer : r ≡ next (sampled_fault x1) (sampled_fault x2)
-    answer = sampled.0 ∙ (λ i. next (sampled_fault (one i)) (sampled_fault (two i)))
-
+  module _ (sampled : (r ≡ next (sampled_fault x1) (sampled_fault x2)) × (w₁ ≡ put (11 * n) x w)) where
     kept1 : Kept need w w₁
     kept1 = kept_put (11 * n) x w w₁ (omega (arith, size-values)) sampled.1
 
     -- a sample is refused
     pub samples-refused : {q : Refusal} → r ≡ Refused q → StepTaken n row_starts cols τ x1 x2 a1 a2 r w w₁
     samples-refused {q} p = record {
-      answer-is = refused-here r _ _ q answer p;
+      answer-is = refused-here r _ _ q sampled.0 p;
       held = λ accepted. absurd (refused-not-accepted refl p accepted);
       kept = kept1;
     }
@@ -134,7 +108,7 @@ module _ (n : ℕ) (row_starts cols : List ℕ) (τ f1 f2 : Float) (starts ends 
       kept2 = kept_then kept1 (kept_put (4 * n) a w₁ w₂ (omega (arith, size-weights)) weighted-are.1)
 
       all-checks : r₁ ≡ next (next (sampled_fault x1) (sampled_fault x2)) (weight_fault a1 a2)
-      all-checks = accepted-then r₁ r _ _ answer accepted weighted-are.0
+      all-checks = accepted-then r₁ r _ _ sampled.0 accepted weighted-are.0
 
       -- a weight is refused
       pub weights-refused : {q : Refusal} → r₁ ≡ Refused q → StepTaken n row_starts cols τ x1 x2 a1 a2 r₁ w w₂
@@ -175,10 +149,10 @@ module _ (n : ℕ) (row_starts cols : List ℕ) (τ f1 f2 : Float) (starts ends 
         values = ap (take (2 * m)) (wrote3.rest (11 * n) (omega arith) ∙ wrote2.rest (11 * n) (omega arith)) ∙ wrote1.here
 
         value1 : firsts A m (part (11 * n) (2 * m) w₃) ≡ x1
-        value1 = ap (firsts A m) values ∙ first-values m f1 f2 s e ∙ one
+        value1 = ap (firsts A m) values ∙ ap (λ (k : ℕ). firsts A k x) (sym size-x) ∙ first-values (length starts) f1 f2 starts ends
 
         value2 : seconds A m (part (11 * n) (2 * m) w₃) ≡ x2
-        value2 = ap (seconds A m) values ∙ second-values m f1 f2 s e ∙ two
+        value2 = ap (seconds A m) values ∙ ap (λ (k : ℕ). seconds A k x) (sym size-x) ∙ second-values (length starts) f1 f2 starts ends
 
         -- the held signal
         signal : part 0 n w₃ ≡ part 0 n w

@@ -21,55 +21,52 @@ ghost use Rattle.varcoef_magnus_graph_traj_step.specs.SignalScaled.{ScaledTermAd
 ghost use Rattle.varcoef_magnus_graph_traj_step.specs.StepTaken.{StepTaken};
 
 use error::Refusal;
+use graph_pairs::paired::{Pair, Pairs};
 use graph_rows::kernel::Pattern;
+use graph_traj_laws::kernel::EndLists;
 use graph_traj_samples::kernel::sample;
 use graph_traj_weights::kernel::sample_weights;
 use magnus_graph_coefficients::kernel::reciprocal_factorial;
 use magnus_graph_helpers::factors::Factors;
 use square_roots::kernel::roots_in;
 use varcoef_magnus_graph::SQRT3_OVER_12_F64;
-use varcoef_magnus_graph_pairs::kernel::rooted_products_in;
-use varcoef_magnus_graph_scaled_pairs::kernel::scale_in;
-use varcoef_magnus_graph_term::kernel::rooted_term_in;
+use varcoef_magnus_graph_pairs::kernel::WeightedPairs;
 
-// One term of the Taylor sum, by two walks over the pattern that serve both samples: of v, whose pairs at 4n are scaled by the roots, they
-// form Ωv in its place, scaled too, and add coefficient · Ωv to the sum. The roots and the values are kept.
-fn sampled_term(pattern: Pattern<'_>, factors: Factors, coefficient: f64, work: &mut [f64])
-    requires { 11 * pattern.n + 2 * length pattern.col_idx.now ≤ length work.old }
+// One term of the Taylor sum, by two walks over the pattern that serve both samples: of v, whose pairs `scaled` are scaled by the roots, they
+// form Ωv in its place, scaled too, and add coefficient · Ωv to the sum. Not inlined, so that the loops of the walks have all registers. The lists
+// of pairs are parameters, as `WeightedPairs::rooted_products` says.
+#[inline(never)]
+fn sampled_term(
+    samples: WeightedPairs<'_, '_, '_>,
+    factors: Factors,
+    coefficient: f64,
+    sum: &mut [f64],
+    products: &mut [f64],
+    scaled: &mut [f64],
+    next: &mut [f64],
+)
+    requires sum_len { length sum.old ≡ samples.pattern.n }
+    requires products_len { length products.old ≡ 2 * samples.pattern.n }
+    requires scaled_len { length scaled.old ≡ 2 * samples.pattern.n }
+    requires next_len { length next.old ≡ 2 * samples.pattern.n }
     ensures { let A = ieee binary64 in
-        let w = work.old in
-        let p = pattern.entry in
+        let p = samples.entry.pattern in
         let n = p.n in
         let m = length p.col_idx.now in
         let L = row_product64 n p.row_ptr.now p.col_idx.now in
-        let x = part (11 * n) (2 * m) w in
-        let r = part (8 * n) (2 * n) w in
+        let x = samples.entry.vals.values.now in
+        let r = samples.entry.roots.values.now in
         let P = weighted_omega4 A n minus_half factors.s factors.sign factors.tau in
         let W = P (L (firsts A m x)) (L (seconds A m x)) (firsts A n r) (seconds A n r) in
-        ScaledTermAdded n W coefficient w work.new }
+        ScaledTermAdded n r W coefficient sum.old scaled.old sum.new scaled.new }
 {
-    let n = pattern.n;
-    let pairs = 2 * n;
-    let scaled = 4 * n;
-    let next = 6 * n;
-    let roots = 8 * n;
-    let values = 11 * n;
-    rooted_products_in(pattern, work, values, roots, scaled, pairs, next);
-    rooted_term_in(
-        pattern,
-        work,
-        values,
-        roots,
-        next,
-        pairs,
-        scaled,
-        factors,
-        coefficient,
-    );
+    samples.rooted_products(scaled, products, next);
+    samples.add_rooted_term(products, next, factors, coefficient, sum, scaled);
 }
 
-// The Taylor sum of four terms: the vector at 0, the held signal, becomes its successor. The roots and the values are kept. Each term is a
-// call of its own, so that the walks of a term are compiled once and by themselves, with all registers for their loops.
+// The Taylor sum of four terms: the vector at 0, the held signal, becomes its successor. The work slice is split into the vectors that the terms
+// write, and the roots and the values behind them. It is no sum of an `Omega`, whose terms find v at n: here a term takes v as pairs that are scaled
+// by the roots, at 4n, and leaves its image so.
 fn sampled_taylor4(pattern: Pattern<'_>, factors: Factors, work: &mut [f64])
     requires { 11 * pattern.n + 2 * length pattern.col_idx.now ≤ length work.old }
     ensures { let A = ieee binary64 in
@@ -85,37 +82,55 @@ fn sampled_taylor4(pattern: Pattern<'_>, factors: Factors, work: &mut [f64])
         SumFormed n (reciprocal_factorial binary64) 4 W w work.new }
 {
     let n = pattern.n;
-    let first = reciprocal_factorial(1);
-    let second = reciprocal_factorial(2);
-    let third = reciprocal_factorial(3);
-    let fourth = reciprocal_factorial(4);
-    scale_in(work, n, 8 * n, 0, 4 * n);
-    sampled_term(pattern, factors, first, work);
-    sampled_term(pattern, factors, second, work);
-    sampled_term(pattern, factors, third, work);
-    sampled_term(pattern, factors, fourth, work);
+    let m = pattern.col_idx.len();
+    let (sum, from_n) = work.split_at_mut(n);
+    let (_, from_2n) = from_n.split_at_mut(n);
+    let (products, from_4n) = from_2n.split_at_mut(2 * n);
+    let (scaled, from_6n) = from_4n.split_at_mut(2 * n);
+    let (next, from_8n) = from_6n.split_at_mut(2 * n);
+    let (roots, values) = from_8n.split_at_mut(3 * n);
+    let samples = WeightedPairs {
+        pattern,
+        vals: Pairs {
+            count: m,
+            values: &values[..2 * m],
+        },
+        roots: Pairs {
+            count: n,
+            values: &roots[..2 * n],
+        },
+    };
+    samples.scale(sum, scaled);
+    for k in 0..4 {
+        sampled_term(
+            samples,
+            factors,
+            reciprocal_factorial(k + 1),
+            sum,
+            products,
+            scaled,
+            next,
+        );
+    }
 }
 
-// The pairs at 8n become the roots of those at 4n. Two calls take them, for the same reason.
+// The pairs at 8n become the roots of those at 4n.
 fn weight_roots(work: &mut [f64], n: usize)
     requires { 10 * n ≤ length work.old }
     ensures { let w = work.old in
         work.new ≡ put (8 * n) (map (square_root binary64) (part (4 * n) (2 * n) w)) w }
 {
-    roots_in(work, n, 4 * n, 8 * n);
-    roots_in(work, n, 5 * n, 9 * n);
+    roots_in(work, 2 * n, 4 * n, 8 * n);
 }
 
 // What a step takes in a segment of law 2: the pattern, and the start and end lists of the values and of the weights.
 #[derive(Clone, Copy)]
 pub struct SegmentLists<'a> {
     pub pattern: Pattern<'a>,
-    pub starts: &'a [f64],
-    pub ends: &'a [f64],
-    pub a_starts: &'a [f64],
-    pub a_ends: &'a [f64],
-    pub ghost values_len: { (length starts.now ≡ length pattern.col_idx.now) × (length ends.now ≡ length pattern.col_idx.now) },
-    pub ghost weights_len: { (length a_starts.now ≡ pattern.n) × (length a_ends.now ≡ pattern.n) },
+    pub values: EndLists<'a>,
+    pub weights: EndLists<'a>,
+    pub ghost values_len: { length values.start.now ≡ length pattern.col_idx.now },
+    pub ghost weights_len: { length weights.start.now ≡ pattern.n },
 }
 
 // One step with samples of law 2 at two fractions of the way through the segment. Row 20 is checked for the first sample, then for the
@@ -123,32 +138,25 @@ pub struct SegmentLists<'a> {
 pub fn sampled_step(
     lists: SegmentLists<'_>,
     tau: f64,
-    fraction1: f64,
-    fraction2: f64,
+    fractions: Pair,
     work: &mut [f64],
 ) -> Result<(), Refusal>
     requires { 11 * lists.pattern.n + 2 * length lists.pattern.col_idx.now ≤ length work.old }
-    ensures { let l = lists.entry in
-        let m = length l.starts.now in
-        let k = length l.a_starts.now in
-        StepTaken l.pattern.n l.pattern.row_ptr.now l.pattern.col_idx.now tau
-        (law_values m fraction1 l.starts.now l.ends.now)
-        (law_values m fraction2 l.starts.now l.ends.now)
-        (law_values k fraction1 l.a_starts.now l.a_ends.now)
-        (law_values k fraction2 l.a_starts.now l.a_ends.now)
+    ensures { let p = lists.entry.pattern in
+        let v = lists.entry.values in
+        let a = lists.entry.weights in
+        let m = length v.start.now in
+        let k = length a.start.now in
+        StepTaken p.n p.row_ptr.now p.col_idx.now tau
+        (law_values m fractions.first v.start.now v.end.now)
+        (law_values m fractions.second v.start.now v.end.now)
+        (law_values k fractions.first a.start.now a.end.now)
+        (law_values k fractions.second a.start.now a.end.now)
         result work.old work.new }
 {
     let n = lists.pattern.n;
-    let m = lists.pattern.col_idx.len();
-    let SegmentLists {
-        starts,
-        ends,
-        a_starts,
-        a_ends,
-        ..
-    } = lists;
-    sample(starts, ends, 0, m, fraction1, fraction2, work, 11 * n)?;
-    sample_weights(a_starts, a_ends, fraction1, fraction2, work, 4 * n)?;
+    sample(lists.values, fractions, work, 11 * n)?;
+    sample_weights(lists.weights, fractions, work, 4 * n)?;
     weight_roots(work, n);
     let factors = Factors {
         tau,

@@ -16,7 +16,7 @@ use Rattle.graph_shape.proofs.First.{accepts-none}
 use Rattle.magnus_graph_outcome.specs.StepOutcome.{adjoint}
 use Rattle.varcoef_magnus_graph_faults.specs.WeightedStepChecks.{weight_fault}
 use Rattle.graph_traj_laws.specs.Laws.{law_values, by_law, values_at, law_list}
-use Rattle.graph_traj_laws.proofs.Laws.{law-values, law-list-has}
+use Rattle.graph_traj_laws.proofs.Laws.{whole-pool, law-values, law-list-has}
 use Rattle.graph_traj_breakpoints.specs.Breakpoints.{breakpoint}
 use Rattle.graph_traj_segment.specs.Times.{c1, c2}
 use Rattle.graph_traj_parts.specs.Trajectory.{Trajectory, AcceptedAdjointTrajectory}
@@ -24,7 +24,6 @@ use Rattle.graph_traj_samples.specs.Sampled.{sampled_fault}
 use Rattle.magnus_graph_traj_steps.specs.RunSteps.{RunStep, step_in, adjoint_course, segment_steps, sample_at, fraction_at, run_step_fault}
 use Rattle.varcoef_magnus_graph_traj_steps.specs.WeightedRunSteps.{weights_at, weighted_run_step_fault, weighted_run_step_image}
 use Rattle.varcoef_magnus_graph_traj_step.specs.StepTaken.{step_image}
-use Rattle.varcoef_magnus_graph_traj_step.proofs.SampledStep.{whole-pool}
 use Rattle.varcoef_magnus_graph_traj_steps.specs.SampledSteps.{sampled_step_fault, sampled_step_image}
 use Rattle.magnus_graph_traj_steps.specs.StepsTaken.{StepsTaken}
 use Rattle.magnus_graph_traj_steps.proofs.StepsTaken.{same_taken}

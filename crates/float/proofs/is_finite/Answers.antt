@@ -1,6 +1,7 @@
--- `float::is_finite` meets its contract: its test is `finite-by-difference`.
-use Rattle.float.proofs.Finite.{finite-by-difference}
+-- `float::is_finite` meets its contract: it is the library's test.
+use mathlib.Core.Path.{◌∙◌}
+use Rattle.float.proofs.Finite.{library-finite}
 use Rattle.float.proofs.is_finite.Goals as goal
 
 pub returns : goal.returns
-returns c = finite-by-difference c.args.x
+returns c = c.is_finite.ensures.value ∙ library-finite c.args.x

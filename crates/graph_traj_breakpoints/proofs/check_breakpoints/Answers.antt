@@ -1,20 +1,28 @@
 -- `check_breakpoints` meets its contract: the loop stops at the first breakpoint that is not finite or not above its predecessor. Assumes nothing.
 use Rattle.std.proofs.Common.{sym, ◌∙◌, arith}
 use borrow.Author.Tests.{not-true, not-false}
-use Rattle.graph_checks.proofs.First.{passed-more, passed-found, refuses-first, accepts-none}
+use Rattle.graph_checks.proofs.First.{passed_none, passed-more, passed-found, refuses-first, accepts-none}
 use Rattle.graph_traj_breakpoints.specs.LookupChecks.{breakpoints_fault}
+use Rattle.graph_traj_breakpoints.proofs.Rising.{minus-infinity, predecessor-next, rising-is}
 use Rattle.graph_traj_breakpoints.proofs.check_breakpoints.Goals as goal
 
-pub returns-then-not-is_rising : goal.returns-then-not-is_rising
-unfolding breakpoints_fault
-returns-then-not-is_rising c =
-    refuses-first _ _ _ _ c.loop-i-test.true
-    (passed-found c.loop-i.invariant (not-false _ (sym c.is_rising.ensures ∙ c.if-not-is_rising.true)))
+pub loop-x-init : goal.loop-x-init
+loop-x-init c = (passed_none, minus-infinity)
 
-pub loop-i-preserved : goal.loop-i-preserved
-loop-i-preserved c =
-    passed-more c.loop-i.invariant c.loop-i-test.true (not-true _ (sym c.is_rising.ensures ∙ c.if-not-is_rising.false))
+pub returns-then-not-is_finite-predecessor : goal.returns-then-not-is_finite-predecessor
+unfolding breakpoints_fault
+returns-then-not-is_finite-predecessor c =
+    refuses-first _ _ _ _ c.loop-x-test.true
+    (passed-found c.loop-x.invariant.0
+    (not-false _ (sym (rising-is c.args.breakpoints.now c.loop-x.x-index) ∙ rw (← c.is_finite.ensures, ← c.loop-x.invariant.1) c.if-not-is_finite-predecessor.true)))
+
+pub loop-x-preserved : goal.loop-x-preserved
+loop-x-preserved c = (
+  passed-more c.loop-x.invariant.0 c.loop-x-test.true
+      (not-true _ (sym (rising-is c.args.breakpoints.now c.loop-x.x-index) ∙ rw (← c.is_finite.ensures, ← c.loop-x.invariant.1) c.if-not-is_finite-predecessor.false)),
+  predecessor-next c.args.breakpoints.now c.loop-x.x-index,
+)
 
 pub returns : goal.returns
 unfolding breakpoints_fault
-returns c = accepts-none _ _ _ (λ j m. c.loop-i.invariant.none j (omega arith))
+returns c = accepts-none _ _ _ (λ j m. c.loop-x.invariant.0.none j (omega arith))

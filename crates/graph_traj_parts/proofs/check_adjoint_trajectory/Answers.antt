@@ -16,24 +16,24 @@ pub returns-in_err-check_one_segment : goal.returns-in_err-check_one_segment
 unfolding adjoint_trajectory_fault next
 returns-in_err-check_one_segment c = rw (← fault-is c.in_ok-check_pattern.ensures, ← c.in_err-check_one_segment.ensures) (handed_on c.from_residual-in_err-check_one_segment.ensures)
 
-pub returns-in_err-check_counts : goal.returns-in_err-check_counts
+pub returns-in_err-check_trajectory_counts : goal.returns-in_err-check_trajectory_counts
 unfolding adjoint_trajectory_fault next
-returns-in_err-check_counts c = rw (← fault-is c.in_ok-check_pattern.ensures, ← c.in_ok-check_one_segment.ensures, ← c.in_err-check_counts.ensures) (handed_on c.from_residual-in_err-check_counts.ensures)
+returns-in_err-check_trajectory_counts c = rw (← fault-is c.in_ok-check_pattern.ensures, ← c.in_ok-check_one_segment.ensures, ← c.in_err-check_trajectory_counts.ensures) (handed_on c.from_residual-in_err-check_trajectory_counts.ensures)
 
 pub returns-in_err-check_breakpoints : goal.returns-in_err-check_breakpoints
 unfolding adjoint_trajectory_fault next
-returns-in_err-check_breakpoints c = rw (← fault-is c.in_ok-check_pattern.ensures, ← c.in_ok-check_one_segment.ensures, ← c.in_ok-check_counts.ensures, ← c.in_err-check_breakpoints.ensures) (handed_on c.from_residual-in_err-check_breakpoints.ensures)
+returns-in_err-check_breakpoints c = rw (← fault-is c.in_ok-check_pattern.ensures, ← c.in_ok-check_one_segment.ensures, ← c.in_ok-check_trajectory_counts.ensures, ← c.in_err-check_breakpoints.ensures) (handed_on c.from_residual-in_err-check_breakpoints.ensures)
 
 pub returns-in_err-check_first_breakpoint : goal.returns-in_err-check_first_breakpoint
 unfolding adjoint_trajectory_fault next
-returns-in_err-check_first_breakpoint c = rw (← fault-is c.in_ok-check_pattern.ensures, ← c.in_ok-check_one_segment.ensures, ← c.in_ok-check_counts.ensures, ← c.in_ok-check_breakpoints.ensures, ← c.in_err-check_first_breakpoint.ensures) (handed_on c.from_residual-in_err-check_first_breakpoint.ensures)
+returns-in_err-check_first_breakpoint c = rw (← fault-is c.in_ok-check_pattern.ensures, ← c.in_ok-check_one_segment.ensures, ← c.in_ok-check_trajectory_counts.ensures, ← c.in_ok-check_breakpoints.ensures, ← c.in_err-check_first_breakpoint.ensures) (handed_on c.from_residual-in_err-check_first_breakpoint.ensures)
 
 pub returns : goal.returns
 unfolding adjoint_trajectory_fault next
-returns c = rw (← fault-is c.in_ok-check_pattern.ensures, ← c.in_ok-check_one_segment.ensures, ← c.in_ok-check_counts.ensures, ← c.in_ok-check_breakpoints.ensures, ← c.in_ok-check_first_breakpoint.ensures) c.check_lists.ensures
+returns c = rw (← fault-is c.in_ok-check_pattern.ensures, ← c.in_ok-check_one_segment.ensures, ← c.in_ok-check_trajectory_counts.ensures, ← c.in_ok-check_breakpoints.ensures, ← c.in_ok-check_first_breakpoint.ensures) c.check_lists.ensures
 
-pub check_counts-requires : goal.check_counts-requires
-check_counts-requires c =
+pub check_trajectory_counts-requires : goal.check_trajectory_counts-requires
+check_trajectory_counts-requires c =
     let one = (one-segment-accepted _).0 (sym c.in_ok-check_one_segment.ensures) in (
       omega arith,
       ((pattern-accepted _ _ _).0 (sym (fault-is c.in_ok-check_pattern.ensures))).rows.few-entries,
@@ -41,5 +41,5 @@ check_counts-requires c =
 
 pub bounds-trajectory-0 : goal.bounds-trajectory-0
 bounds-trajectory-0 c =
-    let h = breakpoints-counted _ _ _ _ _ _ (sym c.in_ok-check_counts.ensures) in
+    let h = breakpoints-counted _ _ _ _ _ _ (sym c.in_ok-check_trajectory_counts.ensures) in
     omega arith

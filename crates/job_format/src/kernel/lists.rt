@@ -1,84 +1,58 @@
 // The lists of a job, each read to a slice of its length.
 ghost use Rattle.std.specs.Prelude.{◌≡◌, ℕ, List, ◌+◌, ◌*◌, ◌^◌, ◌≤◌, ◌<◌, length};
-ghost use Rattle.std.proofs.Common.{arith};
 ghost use Rattle.arithmetic.specs.Vector.{tabulate};
 ghost use Rattle.job_checks.specs.Bits.{bit_of};
 ghost use Rattle.job_format.specs.JobFormat.{word16, real, job_nodes, job_entries, job_row_starts, job_columns};
 ghost use Rattle.job_format.specs.JobFormat.{job_values, job_weights1, job_weights2, job_signal};
 
-use super::{Job, real_at};
+use super::{Job, number_at, real_at};
 use job_checks::Field;
-use little_endian::kernel::word16;
 
-// An element of a list: how many bytes it has, and its value at a place.
+// An element of a list: what it is at place i of the list that starts at `at`. Counts and columns have an impl each: one for every type that a
+// number of 16 bits converts to would be one for f64 as well.
 trait Element: Copy {
-    ghost SIZE: { ℕ };
+    ghost value: { List ℕ → ℕ → ℕ → Self };
 
-    ghost value: { List ℕ → ℕ → Self };
-
-    const SIZE: usize;
-
-    fn read(bytes: &[u8], at: usize) -> Self
-        requires { at + 8 < 2 ^ 64 }
-        ensures { result ≡ value bytes.now at };
-
-    ghost small: { SIZE ≤ 8 };
+    fn read(bytes: &[u8], at: usize, i: usize) -> Self
+        requires { (at < 2 ^ 33) × (i < 65536) }
+        ensures { result ≡ value bytes.now at i };
 }
 
 impl Element for usize {
-    ghost SIZE = { 2 };
+    ghost value = { λ bytes at i. word16 bytes (at + 2 * i) };
 
-    ghost value = { word16 };
-
-    const SIZE: usize = 2;
-
-    ghost small = { Prim.omega arith };
-
-    #[tactic(auto, unfolding(crate::specs::JobFormat::word16))]
-    fn read(bytes: &[u8], at: usize) -> usize {
-        word16(bytes, at) as usize
+    fn read(bytes: &[u8], at: usize, i: usize) -> usize {
+        number_at(bytes, at + 2 * i) as usize
     }
 }
 
 impl Element for u32 {
-    ghost SIZE = { 2 };
+    ghost value = { λ bytes at i. word16 bytes (at + 2 * i) };
 
-    ghost value = { word16 };
-
-    const SIZE: usize = 2;
-
-    ghost small = { Prim.omega arith };
-
-    #[tactic(auto, unfolding(crate::specs::JobFormat::word16))]
-    fn read(bytes: &[u8], at: usize) -> u32 {
-        word16(bytes, at) as u32
+    fn read(bytes: &[u8], at: usize, i: usize) -> u32 {
+        number_at(bytes, at + 2 * i) as u32
     }
 }
 
 impl Element for f64 {
-    ghost SIZE = { 8 };
+    ghost value = { λ bytes at i. real bytes (at + 8 * i) };
 
-    ghost value = { real };
-
-    const SIZE: usize = 8;
-
-    ghost small = { Prim.omega arith };
-
-    fn read(bytes: &[u8], at: usize) -> f64 {
-        real_at(bytes, at)
+    fn read(bytes: &[u8], at: usize, i: usize) -> f64 {
+        real_at(bytes, at + 8 * i)
     }
 }
 
 // Reads elements, one after the other from `at` on.
 fn read_list<T: Element>(bytes: &[u8], at: usize, target: &mut [T])
     requires { (at < 2 ^ 33) × (length target.old ≤ 65536) }
-    ensures { target.new ≡ tabulate (λ i. T.value bytes.now (at + T.SIZE * i)) (length target.old) }
+    ensures { target.new ≡ tabulate (T.value bytes.now at) (length target.old) }
 {
     for (i, x) in target.iter_mut().enumerate() {
-        *x = T::read(bytes, at + T::SIZE * i);
+        *x = T::read(bytes, at, i);
     }
 }
 
+// Each list is read to a slice of its length. A struct of a slice with that fact would be made at each of these calls, for that call alone.
 impl<'a> Job<'a> {
     // The row starts.
     #[tactic(auto, unfolding(crate::specs::JobFormat::job_row_starts, crate::specs::JobFormat::words16))]
@@ -99,13 +73,21 @@ impl<'a> Job<'a> {
         read_list(self.bytes, at, target);
     }
 
-    // The values of a sample.
+    // As many reals as there are entries, from where the field of a bit starts. Behind bit 8 the last field has ended.
     #[tactic(auto, unfolding(crate::specs::JobFormat::job_values, crate::specs::JobFormat::reals))]
+    pub fn read_values_of_bit(&self, bit: usize, target: &mut [f64])
+        requires { (bit ≤ 9) × (length target.old ≡ job_entries self.now) }
+        ensures { target.new ≡ job_values self.now bit }
+    {
+        read_list(self.bytes, self.start_of_bit(bit), target);
+    }
+
+    // The values of a sample.
     pub fn read_values(&self, sample: Field, target: &mut [f64])
         requires { length target.old ≡ job_entries self.now }
         ensures { target.new ≡ job_values self.now (bit_of sample) }
     {
-        read_list(self.bytes, self.start(sample), target);
+        self.read_values_of_bit(sample.bit() as usize, target);
     }
 
     // The weights, after the root bound: those for the first sample, then those for the second.

@@ -3,10 +3,10 @@ use Rattle.error.proofs.Checks.{refuses, accepts}
 use Rattle.magnus_graph_faults.specs.StepChecks.{radius_fault}
 use Rattle.magnus_graph_checks.proofs.check_radius.Goals as goal
 
-pub returns-then-radius_check-bound : goal.returns-then-radius_check-bound
+pub returns-then-bound-tau : goal.returns-then-bound-tau
 unfolding radius_fault
-returns-then-radius_check-bound c = refuses _ _ c.if-radius_check-bound.true
+returns-then-bound-tau c = refuses _ _ c.if-bound-tau.true
 
-pub returns-else-radius_check-bound : goal.returns-else-radius_check-bound
+pub returns-else-bound-tau : goal.returns-else-bound-tau
 unfolding radius_fault
-returns-else-radius_check-bound c = accepts _ _ c.if-radius_check-bound.false
+returns-else-bound-tau c = accepts _ _ c.if-bound-tau.false

@@ -29,21 +29,21 @@ lent t steps bound checked signal output work = record {
 pub returns-in_default : goal.returns-in_default
 returns-in_default c =
     let a = c.args in
-    let given = lent a.trajectory a.steps a.rho_bar_max a.convergence_radius_check a.src.now a.dst.now a.work.now in
-    run-refused (adjoint_of a.tau given) c.check_adjoint_run-checked.ensures c.in_default.is
+    let given = lent a.trajectory a.steps a.bound.rho_bar_max a.bound.convergence_radius_check a.src.now a.dst.now a.work.now in
+    run-refused (adjoint_of a.tau given) (rw c.of-lengths.ensures at c.check_adjoint_run-checked.ensures) c.in_default.is
 
 pub store-requires : goal.store-requires
 store-requires c =
     let a = c.args in
-    let given = lent a.trajectory a.steps a.rho_bar_max a.convergence_radius_check a.src.now a.dst.now a.work.now in
-    let ok = adjoint-accepted a.tau given c.check_adjoint_run-checked.ensures c.in-Ok.is in
+    let given = lent a.trajectory a.steps a.bound.rho_bar_max a.bound.convergence_radius_check a.src.now a.dst.now a.work.now in
+    let ok = adjoint-accepted a.tau given (rw c.of-lengths.ensures at c.check_adjoint_run-checked.ensures) c.in-Ok.is in
     omega (arith, ok.signals.signal-length, ok.signals.output-length)
 
 pub returns-then-no_steps : goal.returns-then-no_steps
 returns-then-no_steps c =
     let a = c.args in
-    let given = lent a.trajectory a.steps a.rho_bar_max a.convergence_radius_check a.src.now a.dst.now a.work.now in
-    let check = c.check_adjoint_run-checked.ensures in
+    let given = lent a.trajectory a.steps a.bound.rho_bar_max a.bound.convergence_radius_check a.src.now a.dst.now a.work.now in
+    let check = rw c.of-lengths.ensures at c.check_adjoint_run-checked.ensures in
     let yes = c.in-Ok.is in
     let lengths = adjoint-lengths a.tau given check yes in
     run-copied (adjoint_of a.tau given) check yes lengths (adjoint-plain a.tau given c.binary64_values.ensures c.binary64_values-2.ensures (subst T (sym c.well_formed.1.0.1) tt))
@@ -55,45 +55,45 @@ returns-then-no_steps c =
 pub overflow_mul-need : goal.overflow_mul-need
 overflow_mul-need c =
     let a = c.args in
-    let given = lent a.trajectory a.steps a.rho_bar_max a.convergence_radius_check a.src.now a.dst.now a.work.now in
-    let ok = adjoint-accepted a.tau given c.check_adjoint_run-checked.ensures c.in-Ok.is in
+    let given = lent a.trajectory a.steps a.bound.rho_bar_max a.bound.convergence_radius_check a.src.now a.dst.now a.work.now in
+    let ok = adjoint-accepted a.tau given (rw c.of-lengths.ensures at c.check_adjoint_run-checked.ensures) c.in-Ok.is in
     omega (arith, ok.along.accepted.pattern.rows.few-rows)
 
 pub overflow_add-need : goal.overflow_add-need
 overflow_add-need c =
     let a = c.args in
-    let given = lent a.trajectory a.steps a.rho_bar_max a.convergence_radius_check a.src.now a.dst.now a.work.now in
-    let ok = adjoint-accepted a.tau given c.check_adjoint_run-checked.ensures c.in-Ok.is in
+    let given = lent a.trajectory a.steps a.bound.rho_bar_max a.bound.convergence_radius_check a.src.now a.dst.now a.work.now in
+    let ok = adjoint-accepted a.tau given (rw c.of-lengths.ensures at c.check_adjoint_run-checked.ensures) c.in-Ok.is in
     omega (arith, ok.along.accepted.pattern.rows.few-rows, ok.along.accepted.pattern.rows.few-entries)
 
 pub load-requires : goal.load-requires
 load-requires c =
     let a = c.args in
-    let given = lent a.trajectory a.steps a.rho_bar_max a.convergence_radius_check a.src.now a.dst.now a.work.now in
-    let ok = adjoint-accepted a.tau given c.check_adjoint_run-checked.ensures c.in-Ok.is in
+    let given = lent a.trajectory a.steps a.bound.rho_bar_max a.bound.convergence_radius_check a.src.now a.dst.now a.work.now in
+    let ok = adjoint-accepted a.tau given (rw c.of-lengths.ensures at c.check_adjoint_run-checked.ensures) c.in-Ok.is in
     let some : 0 < a.steps = omega arith in
     omega (arith, ok.signals.signal-length, ok.room some)
 
 pub invariant_of-along : goal.invariant_of-along
 invariant_of-along c =
     let a = c.args in
-    let given = lent a.trajectory a.steps a.rho_bar_max a.convergence_radius_check a.src.now a.dst.now a.work.now in
-    let ok = adjoint-accepted a.tau given c.check_adjoint_run-checked.ensures c.in-Ok.is in
+    let given = lent a.trajectory a.steps a.bound.rho_bar_max a.bound.convergence_radius_check a.src.now a.dst.now a.work.now in
+    let ok = adjoint-accepted a.tau given (rw c.of-lengths.ensures at c.check_adjoint_run-checked.ensures) c.in-Ok.is in
     record { accepted = ok.along.accepted }
 
 pub run_adjoint_steps-taken-requires : goal.run_adjoint_steps-taken-requires
 run_adjoint_steps-taken-requires c =
     let a = c.args in
-    let given = lent a.trajectory a.steps a.rho_bar_max a.convergence_radius_check a.src.now a.dst.now a.work.now in
-    let ok = adjoint-accepted a.tau given c.check_adjoint_run-checked.ensures c.in-Ok.is in
+    let given = lent a.trajectory a.steps a.bound.rho_bar_max a.bound.convergence_radius_check a.src.now a.dst.now a.work.now in
+    let ok = adjoint-accepted a.tau given (rw c.of-lengths.ensures at c.check_adjoint_run-checked.ensures) c.in-Ok.is in
     let some : 0 < a.steps = omega arith in
-    ((ok.stepping some).few-steps, omega (arith, ok.room some, c.load.auto.work))
+    omega (arith, ok.room some, c.load.auto.work)
 
 pub finish_run-requires : goal.finish_run-requires
 finish_run-requires c =
     let a = c.args in
-    let given = lent a.trajectory a.steps a.rho_bar_max a.convergence_radius_check a.src.now a.dst.now a.work.now in
-    let ok = adjoint-accepted a.tau given c.check_adjoint_run-checked.ensures c.in-Ok.is in
+    let given = lent a.trajectory a.steps a.bound.rho_bar_max a.bound.convergence_radius_check a.src.now a.dst.now a.work.now in
+    let ok = adjoint-accepted a.tau given (rw c.of-lengths.ensures at c.check_adjoint_run-checked.ensures) c.in-Ok.is in
     let some : 0 < a.steps = omega arith in (
       omega (arith, ok.room some, c.load.auto.work, c.run_adjoint_steps-taken.ensures.length-kept),
       omega (arith, ok.signals.output-length, ok.room some, c.load.auto.work, c.run_adjoint_steps-taken.ensures.length-kept),
@@ -102,9 +102,9 @@ finish_run-requires c =
 pub returns : goal.returns
 returns c =
     let a = c.args in
-    let given = lent a.trajectory a.steps a.rho_bar_max a.convergence_radius_check a.src.now a.dst.now a.work.now in
+    let given = lent a.trajectory a.steps a.bound.rho_bar_max a.bound.convergence_radius_check a.src.now a.dst.now a.work.now in
     let some : 0 < a.steps = omega arith in
-    let check = c.check_adjoint_run-checked.ensures in
+    let check = rw c.of-lengths.ensures at c.check_adjoint_run-checked.ensures in
     let yes = c.in-Ok.is in
     run-finished (adjoint_of a.tau given) check yes (adjoint-lengths a.tau given check yes)
     (adjoint-plain a.tau given c.binary64_values.ensures c.binary64_values-2.ensures (subst T (sym c.well_formed.1.0.1) tt))

@@ -24,49 +24,49 @@ lent t steps bound checked signal output work = record {
 pub returns-in_default : goal.returns-in_default
 returns-in_default c =
     let a = c.args in
-    let given = lent a.trajectory a.steps a.rho_bar_max a.convergence_radius_check a.src.now a.dst.now a.work.now in
-    run-refused (forward_of given) c.check_run-checked.ensures c.in_default.is
+    let given = lent a.trajectory a.steps a.bound.rho_bar_max a.bound.convergence_radius_check a.src.now a.dst.now a.work.now in
+    run-refused (forward_of given) (rw c.of-lengths.ensures at c.check_run-checked.ensures) c.in_default.is
 
 pub overflow_mul-need : goal.overflow_mul-need
 overflow_mul-need c =
     let a = c.args in
-    let given = lent a.trajectory a.steps a.rho_bar_max a.convergence_radius_check a.src.now a.dst.now a.work.now in
-    let ok = forward-accepted given c.check_run-checked.ensures c.in-Ok.is in
+    let given = lent a.trajectory a.steps a.bound.rho_bar_max a.bound.convergence_radius_check a.src.now a.dst.now a.work.now in
+    let ok = forward-accepted given (rw c.of-lengths.ensures at c.check_run-checked.ensures) c.in-Ok.is in
     omega (arith, ok.along.pattern.rows.few-rows)
 
 pub overflow_add-need : goal.overflow_add-need
 overflow_add-need c =
     let a = c.args in
-    let given = lent a.trajectory a.steps a.rho_bar_max a.convergence_radius_check a.src.now a.dst.now a.work.now in
-    let ok = forward-accepted given c.check_run-checked.ensures c.in-Ok.is in
+    let given = lent a.trajectory a.steps a.bound.rho_bar_max a.bound.convergence_radius_check a.src.now a.dst.now a.work.now in
+    let ok = forward-accepted given (rw c.of-lengths.ensures at c.check_run-checked.ensures) c.in-Ok.is in
     omega (arith, ok.along.pattern.rows.few-rows, ok.along.pattern.rows.few-entries)
 
 pub load-requires : goal.load-requires
 load-requires c =
     let a = c.args in
-    let given = lent a.trajectory a.steps a.rho_bar_max a.convergence_radius_check a.src.now a.dst.now a.work.now in
-    let ok = forward-accepted given c.check_run-checked.ensures c.in-Ok.is in
+    let given = lent a.trajectory a.steps a.bound.rho_bar_max a.bound.convergence_radius_check a.src.now a.dst.now a.work.now in
+    let ok = forward-accepted given (rw c.of-lengths.ensures at c.check_run-checked.ensures) c.in-Ok.is in
     omega (arith, ok.signals.signal-length, ok.room)
 
 pub invariant_of-along : goal.invariant_of-along
 invariant_of-along c =
     let a = c.args in
-    let given = lent a.trajectory a.steps a.rho_bar_max a.convergence_radius_check a.src.now a.dst.now a.work.now in
-    let ok = forward-accepted given c.check_run-checked.ensures c.in-Ok.is in
+    let given = lent a.trajectory a.steps a.bound.rho_bar_max a.bound.convergence_radius_check a.src.now a.dst.now a.work.now in
+    let ok = forward-accepted given (rw c.of-lengths.ensures at c.check_run-checked.ensures) c.in-Ok.is in
     record { accepted = ok.along }
 
 pub run_all_segments-taken-requires : goal.run_all_segments-taken-requires
 run_all_segments-taken-requires c =
     let a = c.args in
-    let given = lent a.trajectory a.steps a.rho_bar_max a.convergence_radius_check a.src.now a.dst.now a.work.now in
-    let ok = forward-accepted given c.check_run-checked.ensures c.in-Ok.is in
-    (ok.few-steps, omega (arith, ok.room, c.load.auto.work))
+    let given = lent a.trajectory a.steps a.bound.rho_bar_max a.bound.convergence_radius_check a.src.now a.dst.now a.work.now in
+    let ok = forward-accepted given (rw c.of-lengths.ensures at c.check_run-checked.ensures) c.in-Ok.is in
+    omega (arith, ok.room, c.load.auto.work)
 
 pub finish_run-requires : goal.finish_run-requires
 finish_run-requires c =
     let a = c.args in
-    let given = lent a.trajectory a.steps a.rho_bar_max a.convergence_radius_check a.src.now a.dst.now a.work.now in
-    let ok = forward-accepted given c.check_run-checked.ensures c.in-Ok.is in (
+    let given = lent a.trajectory a.steps a.bound.rho_bar_max a.bound.convergence_radius_check a.src.now a.dst.now a.work.now in
+    let ok = forward-accepted given (rw c.of-lengths.ensures at c.check_run-checked.ensures) c.in-Ok.is in (
       omega (arith, ok.room, c.load.auto.work, c.run_all_segments-taken.ensures.length-kept),
       omega (arith, ok.signals.output-length, ok.room, c.load.auto.work, c.run_all_segments-taken.ensures.length-kept),
     )
@@ -74,8 +74,8 @@ finish_run-requires c =
 pub returns : goal.returns
 returns c =
     let a = c.args in
-    let given = lent a.trajectory a.steps a.rho_bar_max a.convergence_radius_check a.src.now a.dst.now a.work.now in
-    let check = c.check_run-checked.ensures in
+    let given = lent a.trajectory a.steps a.bound.rho_bar_max a.bound.convergence_radius_check a.src.now a.dst.now a.work.now in
+    let check = rw c.of-lengths.ensures at c.check_run-checked.ensures in
     let yes = c.in-Ok.is in
     run-finished (forward_of given) check yes (forward-lengths given check yes) (forward-plain given c.binary64_values.ensures c.binary64_values-2.ensures)
     (forward-some given check yes) (forward-accepted given check yes).room c.load.ensures c.run_all_segments-taken.ensures

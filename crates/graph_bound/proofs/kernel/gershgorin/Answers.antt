@@ -6,9 +6,6 @@ use Rattle.graph_bound.proofs.Gershgorin.{larger-first, larger-second, largest-n
 use Rattle.graph_bound.proofs.kernel.gershgorin.Goals as goal
 use Rattle.graph_bound.proofs.kernel.gershgorin.Goals.{then-row_sum-max_sum, else-row_sum-max_sum}
 
-pub overflow_sub-n : goal.overflow_sub-n
-overflow_sub-n c = omega (arith, c.requires.count)
-
 pub loop-i-init : goal.loop-i-init
 loop-i-init c = sym (largest-none binary64 _)
 
@@ -24,5 +21,5 @@ loop-i-preserved c =
 pub returns : goal.returns
 unfolding gershgorin_bound
 returns c =
-    let last : c.loop-i.i ≡ length c.args.row_ptr.now - 1 = omega arith in
+    let last : c.loop-i.i ≡ length c.args.vals.row_starts.row_ptr.now - 1 = omega (arith, c.args.vals.row_starts.accepted.count) in
     c.loop-i.invariant ∙ ap (largest_to binary64 _) last

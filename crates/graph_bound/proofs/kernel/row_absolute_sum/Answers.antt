@@ -10,15 +10,15 @@ use Rattle.graph_bound.proofs.kernel.row_absolute_sum.Goals.{then-v, else-v}
 
 pub loop-v-init : goal.loop-v-init
 loop-v-init c =
-    let lo = get_or c.args.row_ptr.now c.args.i 0 in
+    let lo = get_or c.args.vals.now.row_starts.row_ptr.now c.args.i 0 in
     let none : lo + 0 ≡ lo = omega arith in
-    sym (ap (absolute_sum binary64 c.args.vals.now lo) none ∙ absolute-sum-none binary64 c.args.vals.now lo)
+    sym (ap (absolute_sum binary64 c.args.vals.now.list.now lo) none ∙ absolute-sum-none binary64 c.args.vals.now.list.now lo)
 
 pub loop-v-preserved : goal.loop-v-preserved
 loop-v-preserved c =
-    let vals = c.args.vals.now in
-    let lo = get_or c.args.row_ptr.now c.args.i 0 in
-    let size = get_or c.args.row_ptr.now (c.args.i + 1) 0 - lo in
+    let vals = c.args.vals.now.list.now in
+    let lo = get_or c.args.vals.now.row_starts.row_ptr.now c.args.i 0 in
+    let size = get_or c.args.vals.now.row_starts.row_ptr.now (c.args.i + 1) 0 - lo in
     let k = c.loop-v.v-index in
     let inside : k < size = omega (arith, length-take size (drop lo vals)) in
     let item : get_or (take size (drop lo vals)) k nan ≡ get_or vals (lo + k) nan =
@@ -35,10 +35,10 @@ loop-v-preserved c =
 pub returns : goal.returns
 unfolding row_absolute_sum
 returns c =
-    let vals = c.args.vals.now in
-    let lo = get_or c.args.row_ptr.now c.args.i 0 in
-    let hi = get_or c.args.row_ptr.now (c.args.i + 1) 0 in
-    let rising = c.requires.rows.rising c.args.i c.requires.i_in_bounds in
-    let within = c.requires.rows.within (c.args.i + 1) (omega (arith, c.requires.i_in_bounds)) in
-    let last : lo + c.loop-v.v-index ≡ hi = omega (arith, length-take (hi - lo) (drop lo vals), length-drop lo vals, rising, within) in
+    let vals = c.args.vals.now.list.now in
+    let lo = get_or c.args.vals.now.row_starts.row_ptr.now c.args.i 0 in
+    let hi = get_or c.args.vals.now.row_starts.row_ptr.now (c.args.i + 1) 0 in
+    let rising = c.args.vals.now.row_starts.accepted.rising c.args.i c.requires in
+    let within = c.args.vals.now.row_starts.accepted.within (c.args.i + 1) (omega (arith, c.requires)) in
+    let last : lo + c.loop-v.v-index ≡ hi = omega (arith, length-take (hi - lo) (drop lo vals), length-drop lo vals, rising, within, c.args.vals.now.count) in
     c.loop-v.invariant ∙ ap (absolute_sum binary64 vals lo) last

@@ -7,5 +7,5 @@ use Rattle.graph_bound.proofs.kernel.row_absolute_sum.Given as goal
 
 abbrev pub invariant-loop-v : goal.invariant-loop-v
 invariant-loop-v l =
-    let lo = get_or l.row_ptr l.i 0 in
-    l.row_sum ≡ absolute_sum binary64 l.vals lo (lo + l.v-index)
+    let lo = get_or l.vals.row_starts.row_ptr.now l.i 0 in
+    l.row_sum ≡ absolute_sum binary64 l.vals.list.now lo (lo + l.v-index)

@@ -18,17 +18,17 @@ at-least-is-not-below n c = by-test (ltb c n) refl
 pub returns-then-columns_inside : goal.returns-then-columns_inside
 unfolding column_fault
 returns-then-columns_inside c =
-    let n = c.args.n in
-    let cols = c.args.col_idx.now in
+    let n = c.args.columns.row_starts.n in
+    let cols = c.args.columns.list.now in
     accepts-none _ _ _
     (none-fails (λ column. ltb column n) cols 0 (outside_at n cols) (λ k. at-least-is-not-below n (get_or cols k 0)) _
     c.columns_inside.ensures c.if-columns_inside.true)
 
-pub offset_bounds-col_idx-k : goal.offset_bounds-col_idx-k
-offset_bounds-col_idx-k c = let h = found-first _ _ c.in-Some.k c.in-Some.ensures in search rules
+pub offset_bounds-columns-k : goal.offset_bounds-columns-k
+offset_bounds-columns-k c = let h = found-first _ _ c.in-Some.k c.in-Some.ensures in search rules
 
-pub bounds-col_idx-k : goal.bounds-col_idx-k
-bounds-col_idx-k c = (found-first _ _ c.in-Some.k c.in-Some.ensures).0
+pub bounds-columns-k : goal.bounds-columns-k
+bounds-columns-k c = (found-first _ _ c.in-Some.k c.in-Some.ensures).0
 
 pub returns-in-None : goal.returns-in-None
 unfolding column_fault

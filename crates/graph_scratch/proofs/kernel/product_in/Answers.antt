@@ -1,33 +1,32 @@
--- `graph_scratch::kernel::product_in` meets its contract: a turn writes the sums of two rows to the target's next places, and the
--- source, which is apart from the target, is as it was. A last row may be left. Assumes nothing.
-use Rattle.std.proofs.Common.{◌≡◌, refl, ◌+◌, ◌<◌, length, arith, rules}
-use lib.ListN.{length-set}
-use Rattle.scratch.proofs.Writing.{written_none, written_next, written_all, part-kept}
-use Rattle.graph_scratch.proofs.WorkSlice.{lent-part, length-lent-part}
+-- `graph_scratch::kernel::product_in` meets its contract: the work slice is split between the two vectors, and joined again when the product is
+-- written. Assumes nothing.
+use Rattle.std.proofs.Common.{arith, ◌≡◌, ◌∙◌, ◌+◌, ◌-◌, refl, ap, take}
+use Rattle.arithmetic.proofs.Tabulate.{length-tabulate}
+use Rattle.scratch.specs.Parts.{part}
+use Rattle.scratch.proofs.Halves.{part-of-first, joined-after, joined-before}
+use Rattle.graph_rows.specs.Product.{product_of}
 use Rattle.graph_scratch.proofs.kernel.product_in.Goals as goal
 
-pub loop-i-init : goal.loop-i-init
-loop-i-init c = written_none _ _ _ _
+pub returns-then-source-target : goal.returns-then-source-target
+returns-then-source-target c =
+    let a = c.args in
+    let w = a.work.now in
+    let n = a.sample.pattern.n in
+    let halves = c.split_at_mut-front.ensures in
+    let count : a.source + n - a.source ≡ n = omega arith in
+    joined-after w a.target a.target halves.front halves.back (length-tabulate _ n)
+    (c.product.ensures
+    ∙ ap (λ k. product_of a.sample (part a.source k c.split_at_mut-front.result.0.now)) count
+    ∙ ap (λ u. product_of a.sample (part a.source n u)) halves.front
+    ∙ ap (product_of a.sample) (part-of-first a.source n a.target w (omega arith)))
+    refl (omega arith)
 
-pub overflow_add-i : goal.overflow_add-i
-overflow_add-i c = omega (arith, c.args.sample.pattern.accepted.rows.few-rows)
-
-pub loop-i-preserved : goal.loop-i-preserved
-loop-i-preserved c =
-    let written = c.loop-i.invariant in
-    let source = part-kept written c.args.source c.requires.apart in
-    let i = c.loop-i.i in
-    let one = written_next written (omega arith) _ _ refl (rw (lent-part, source) at c.row_sum-acc.ensures) in
-    let two = written_next one (omega arith) _ _ refl (rw (lent-part, source) at c.row_sum-next.ensures) in
-    let twice : i + 1 + 1 ≡ i + 2 = omega arith in
-    rw twice at two
-
-pub returns-then-i-n : goal.returns-then-i-n
-returns-then-i-n c =
-    let written = c.loop-i.invariant in
-    let source = part-kept written c.args.source c.requires.apart in
-    let one = written_next written (omega arith) _ _ refl (rw (lent-part, source) at c.row_sum-acc-then-i-n.ensures) in
-    written_all one (omega arith) refl
-
-pub returns-else-i-n : goal.returns-else-i-n
-returns-else-i-n c = written_all c.loop-i.invariant (omega arith) refl
+pub returns-else-source-target : goal.returns-else-source-target
+returns-else-source-target c =
+    let a = c.args in
+    let w = a.work.now in
+    let n = a.sample.pattern.n in
+    let halves = c.split_at_mut-front-else-source-target.ensures in
+    joined-before w a.target a.source halves.front halves.back (length-tabulate _ n)
+    (c.product-else-source-target.ensures ∙ ap (λ u. product_of a.sample (take n u)) halves.back)
+    (omega arith) (omega arith)

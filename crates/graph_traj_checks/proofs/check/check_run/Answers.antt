@@ -4,7 +4,6 @@ use Rattle.error.proofs.Checks.{handed_on}
 use Rattle.graph_traj_faults.specs.RunChecks.{run_fault}
 use Rattle.std.proofs.Common.{sym, arith}
 use Rattle.graph_traj_parts.proofs.TrajectorySound.{trajectory-accepted}
-use Rattle.graph_traj_faults.proofs.RunSound.{step-count-accepted}
 use Rattle.graph_traj_checks.proofs.check.check_run.Goals as goal
 
 pub returns-in_err-check_trajectory : goal.returns-in_err-check_trajectory
@@ -37,10 +36,7 @@ bounds-trajectory-0 c =
     omega arith
 
 pub check_segments_radius-requires : goal.check_segments_radius-requires
-check_segments_radius-requires c = (
-  ((step-count-accepted _).0 (sym c.in_ok-check_step_count.ensures)).1,
-  ((trajectory-accepted _).0 (sym c.in_ok-check_trajectory.ensures)).times,
-)
+check_segments_radius-requires c = ((trajectory-accepted _).0 (sym c.in_ok-check_trajectory.ensures)).times
 
 pub overflow_mul-need : goal.overflow_mul-need
 overflow_mul-need c =

@@ -9,6 +9,6 @@ use Rattle.graph_traj_samples.proofs.kernel.check_values.Given as goal
 
 abbrev pub invariant-loop-i : goal.invariant-loop-i
 invariant-loop-i g l =
-    let values = law_values (length l.starts) l.fraction l.starts l.ends in
+    let values = law_values (length l.lists.start.now) l.fraction l.lists.start.now l.lists.end.now in
     (bad : Float → Bool) (refusal : Float → Refusal) → Checks (goal.F-post g l.check) bad refusal
     → Passed (λ k. bad (get_or values k nan)) (length values) l.i

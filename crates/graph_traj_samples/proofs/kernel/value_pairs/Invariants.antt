@@ -8,8 +8,8 @@ use Rattle.graph_traj_samples.proofs.kernel.value_pairs.Given as goal
 
 abbrev pub invariant-loop-i : goal.invariant-loop-i
 invariant-loop-i g l =
-    let one = value l.starts l.ends l.fraction1 in
-    let two = value l.starts l.ends l.fraction2 in
-    let m = length l.starts in
+    let one = value l.lists.start.now l.lists.end.now l.fractions.first in
+    let two = value l.lists.start.now l.lists.end.now l.fractions.second in
+    let m = length l.lists.start.now in
     ((good : Float → Bool) → TestsBoth (goal.F-post g l.both_pass) good → SoFar good one two m l.i l.passed)
     × Written l.at (alternate one two) (2 * m) l.fn.work (2 * l.i) l.work

@@ -13,10 +13,11 @@ use Rattle.graph_traj_weights.proofs.kernel.sample_weights.Goals as goal
 pub returns-then-value_pairs : goal.returns-then-value_pairs
 unfolding weight_fault sample_weights_fault
 returns-then-value_pairs c =
-    let args = c.args in
+    let lists = c.args.lists in
+    let f = c.args.fractions in
     let tested = c.value_pairs.ensures.0 (λ x. not (not_positive x)) (λ x y r called. search rules) in (
-      both-pass not_positive Weight (λ x. not (not_positive x)) (λ x. not-true _) (length args.starts.now) args.fraction1 args.fraction2
-          args.starts.now args.ends.now tested c.if-value_pairs.true,
+      both-pass not_positive Weight (λ x. not (not_positive x)) (λ x. not-true _) (length lists.start.now) f.first f.second
+          lists.start.now lists.end.now tested c.if-value_pairs.true,
       c.value_pairs.ensures.1,
     )
 

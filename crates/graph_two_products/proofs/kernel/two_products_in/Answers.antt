@@ -9,13 +9,13 @@ use Rattle.graph_two_products.proofs.kernel.two_products_in.Goals as goal
 
 pub returns-then-shared : goal.returns-then-shared
 returns-then-shared c =
-    let r = c.requires in
-    by-its-own-pattern c.args.target_second _ _ _ (sym r.same_nodes) (r.shared_pattern.same c.if-shared.true) c.shared_products_in.ensures
+    let s = c.args.samples in
+    by-its-own-pattern c.args.target_second _ _ _ (sym s.same_nodes) (s.shared_pattern.same c.if-shared.true) c.shared_products_in.ensures
 
 pub returns-else-shared : goal.returns-else-shared
 returns-else-shared c =
     let a = c.args in
-    let r = c.requires in
-    let second = image-of a.source a.target_second c.product_in.new.work (product_of a.second) r.same_nodes c.product_in-else-shared.ensures in
-    one-after-the-other a.first.pattern.n a.source a.target_first a.target_second (product_of a.second) _ a.work.now
-    (length-tabulate _ _) r.apart_first c.product_in.ensures second
+    let s = a.samples in
+    let second = image-of a.source a.target_second c.product_in.new.work (product_of s.second) s.same_nodes c.product_in-else-shared.ensures in
+    one-after-the-other s.first.pattern.n a.source a.target_first a.target_second (product_of s.second) _ a.work.now
+    (length-tabulate _ _) c.requires.apart_first c.product_in.ensures second

@@ -10,7 +10,7 @@ use Rattle.graph_values.proofs.kernel.check_values.Goals as goal
 pub returns-then-all_finite : goal.returns-then-all_finite
 unfolding value_fault
 returns-then-all_finite c =
-    let vals = c.args.vals.now in
+    let vals = c.args.vals.list.now in
     accepts-none _ _ _
     (none-fails finite vals nan (not_finite_at vals) (λ k. refl) _ c.all_finite.ensures c.if-all_finite.true)
 

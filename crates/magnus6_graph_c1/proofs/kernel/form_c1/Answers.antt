@@ -14,5 +14,5 @@ unfolding of_bits
 returns c =
     let s = c.args.samples.now in
     c1-formed (ieee binary64) _ constants6 s.tau _ _ _ (sizes s) _ c.args.work.now _ _ _ _ c.requires.room
-    c.form_b.ensures (second-image s (10 * s.first.pattern.n) _ c.form_b.new.work c.product_in.ensures) c.two_products_in.ensures
+    c.form_b.ensures (second-image s (10 * s.outer.first.pattern.n) _ c.form_b.new.work c.product_in.ensures) c.two_products_in.ensures
     c.scaled_difference.ensures c.scaled_less.ensures

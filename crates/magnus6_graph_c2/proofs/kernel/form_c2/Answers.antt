@@ -11,7 +11,7 @@ use Rattle.magnus6_graph_c2.proofs.kernel.form_c2.Goals as goal
 pub returns : goal.returns
 returns c =
     let s = c.args.samples.now in
-    let n = s.first.pattern.n in
+    let n = s.outer.first.pattern.n in
     c2-formed (ieee binary64) _ constants6 s.tau _ _ _ (sizes s) _ c.args.work.now _ _ _ _ _ _ c.requires.room
     c.form_c1.ensures c.w_sum.ensures
     (second-image s (14 * n) _ c.w_sum.new.work c.product_in.ensures)

@@ -17,16 +17,22 @@ returns-then-law-eq2 c = taken-by-law c.args.law c.if-law-eq2.true c.sampled_ste
 pub invariant_of-omega : goal.invariant_of-omega
 invariant_of-omega c =
     let args = c.args in
-    let within = c.requires.within in
-    record { count = ap length c.law_list-vals.ensures ∙ length-law args.law args.k (length args.pattern.col_idx.now) _ _ within.0 within.1 }
+    let l = args.lists in
+    let m = length l.start.now in
+    record {
+      count =
+          ap length c.law_list-vals.ensures
+          ∙ length-law _ 0 m l.start.now l.end.now (omega arith) (omega (arith, l.same))
+          ∙ c.requires.lists_len;
+    }
 
 pub returns : goal.returns
 unfolding of_bits
 returns c =
     let args = c.args in
     let p = args.pattern in
+    let l = args.lists in
     let pre = c.requires in
-    let constant : args.law ≤ 1 = omega (arith, pre.law_bound.0, c.if-law-eq2.false) in
-    constant-taken p.n p.row_ptr.now p.col_idx.now args.law args.starts.now args.ends.now args.k
-    args.tau args.fraction1 args.fraction2 args.sign constant
-    pre.within.0 pre.within.1 pre.by_index.0 pre.by_index.1 c.law_list-vals.ensures c.taylor_sum.ensures
+    let constant : args.law ≤ 1 = omega (arith, pre.law_bound, c.if-law-eq2.false) in
+    constant-taken p.n p.row_ptr.now p.col_idx.now args.law l.start.now l.end.now args.tau args.fractions.first args.fractions.second args.sign
+    l.same pre.lists_len constant pre.by_index.0 pre.by_index.1 c.law_list-vals.ensures c.taylor_sum.ensures

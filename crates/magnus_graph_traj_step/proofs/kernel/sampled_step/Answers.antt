@@ -9,15 +9,17 @@ pub returns-in_err-sample : goal.returns-in_err-sample
 returns-in_err-sample c =
     let args = c.args in
     let p = args.pattern in
+    let l = args.lists in
     let refused = handed_on c.from_residual.ensures in
-    sampled-refused p.n p.row_ptr.now p.col_idx.now args.starts.now args.ends.now args.k args.factors.tau
-    args.fraction1 args.fraction2 args.factors.sign args.work.now _ c.requires.room c.in_err-sample.ensures.1
-    (refused ∙ c.in_err-sample.ensures.0) refused
+    sampled-refused p.n p.row_ptr.now p.col_idx.now l.start.now l.end.now args.factors.tau args.fractions.first args.fractions.second
+    args.factors.sign l.same c.requires.lists_len args.work.now _ c.requires.room
+    (refused ∙ c.in_err-sample.ensures.0, c.in_err-sample.ensures.1) refused
 
 pub returns : goal.returns
 returns c =
     let args = c.args in
     let p = args.pattern in
-    sampled-taken p.n p.row_ptr.now p.col_idx.now args.starts.now args.ends.now args.k args.factors.tau
-    args.fraction1 args.fraction2 args.factors.sign args.work.now _ c.requires.room c.in_ok-sample.ensures.1
-    c.in_ok-sample.ensures.0 refl (rw c.requires.literal at c.sampled_taylor4.ensures)
+    let l = args.lists in
+    sampled-taken p.n p.row_ptr.now p.col_idx.now l.start.now l.end.now args.factors.tau args.fractions.first args.fractions.second
+    args.factors.sign l.same c.requires.lists_len args.work.now _ c.requires.room c.in_ok-sample.ensures refl
+    (rw c.requires.literal at c.sampled_taylor4.ensures)

@@ -1,5 +1,5 @@
 -- `sqrt_into_slice`: the roots of the first `done` elements are written.
-use Rattle.std.proofs.Common.{length, ◌-◌}
+use Rattle.std.proofs.Common.{length}
 use lib.Ieee.{binary64}
 use Rattle.ieee_square_root.specs.SquareRoot.{square_root}
 use Rattle.square_roots.proofs.Blocks.{Imaged}
@@ -7,6 +7,3 @@ use Rattle.square_roots.proofs.kernel.sqrt_into_slice.Given as goal
 
 abbrev pub invariant-loop-done : goal.invariant-loop-done
 invariant-loop-done l = Imaged (square_root binary64) l.src l.fn.dst (length l.src) 0 0 l.done l.dst
-
-abbrev pub decreases-loop-done : goal.decreases-loop-done
-decreases-loop-done l = l.count - l.done

@@ -1,6 +1,6 @@
 -- `constant_steps` meets its contract: the weights are checked and their roots taken once, and each turn adds the terms of one step, which
 -- leave the roots as they are. Assumes nothing.
-use Rattle.std.proofs.Common.{refl, ◌∙◌, arith}
+use Rattle.std.proofs.Common.{refl, ◌∙◌}
 use lib.Ieee.{of_bits, neg}
 use Rattle.error.proofs.Checks.{handed_on}
 use Rattle.varcoef_magnus_graph_adjoint_run.proofs.Walk.{constant-begins, constant-starts, constant-from, constant-on}

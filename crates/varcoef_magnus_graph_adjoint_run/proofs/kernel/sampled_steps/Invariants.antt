@@ -9,7 +9,9 @@ invariant-loop l =
     let first = l.initial.segment in
     let lists = l.lists in
     let p = lists.pattern in
+    let v = lists.values in
+    let a = lists.weights in
     StepsWalked
-    (sampled_step_fault p.n p.row_ptr.now p.col_idx.now lists.starts.now lists.ends.now lists.a_starts.now lists.a_ends.now first.start first.end first.tau l.steps)
-    (sampled_step_image p.n p.row_ptr.now p.col_idx.now lists.starts.now lists.ends.now lists.a_starts.now lists.a_ends.now first.start first.end first.tau l.steps)
+    (sampled_step_fault p.n p.row_ptr.now p.col_idx.now v.start.now v.end.now a.start.now a.end.now first.start first.end first.tau l.steps)
+    (sampled_step_image p.n p.row_ptr.now p.col_idx.now v.start.now v.end.now a.start.now a.end.now first.start first.end first.tau l.steps)
     p.n (11 * p.n + 2 * length p.col_idx.now) first 0 l.steps l.counter l.initial.work l.work l.segment

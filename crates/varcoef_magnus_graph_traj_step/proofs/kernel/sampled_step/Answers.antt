@@ -9,29 +9,35 @@ use Rattle.varcoef_magnus_graph_traj_step.proofs.kernel.sampled_step.Goals as go
 pub returns-in_err-sample : goal.returns-in_err-sample
 returns-in_err-sample c =
     let a = c.args in
-    let l = a.lists in
-    let p = l.pattern in
+    let p = a.lists.pattern in
+    let f = a.fractions in
+    let v = a.lists.values in
+    let weights = a.lists.weights in
     let refused = handed_on c.from_residual.ensures in
-    samples-refused p.n p.row_ptr.now p.col_idx.now a.tau a.fraction1 a.fraction2 l.starts.now l.ends.now l.a_starts.now l.a_ends.now
-    a.work.now _ _ l.values_len l.weights_len.0 c.requires
+    samples-refused p.n p.row_ptr.now p.col_idx.now a.tau f.first f.second v.start.now v.end.now weights.start.now weights.end.now
+    a.work.now _ _ a.lists.values_len a.lists.weights_len c.requires
     (refused ∙ c.in_err-sample.ensures.0, c.in_err-sample.ensures.1) refused
 
 pub returns-in_err-sample_weights : goal.returns-in_err-sample_weights
 returns-in_err-sample_weights c =
     let a = c.args in
-    let l = a.lists in
-    let p = l.pattern in
+    let p = a.lists.pattern in
+    let f = a.fractions in
+    let v = a.lists.values in
+    let weights = a.lists.weights in
     let refused = handed_on c.from_residual-in_err-sample_weights.ensures in
-    weights-refused p.n p.row_ptr.now p.col_idx.now a.tau a.fraction1 a.fraction2 l.starts.now l.ends.now l.a_starts.now l.a_ends.now
-    a.work.now _ _ l.values_len l.weights_len.0 c.requires c.in_ok-sample.ensures _ _ refl
+    weights-refused p.n p.row_ptr.now p.col_idx.now a.tau f.first f.second v.start.now v.end.now weights.start.now weights.end.now
+    a.work.now _ _ a.lists.values_len a.lists.weights_len c.requires c.in_ok-sample.ensures _ _ refl
     (refused ∙ c.in_err-sample_weights.ensures.0, c.in_err-sample_weights.ensures.1) refused
 
 pub returns : goal.returns
 unfolding of_bits neg
 returns c =
     let a = c.args in
-    let l = a.lists in
-    let p = l.pattern in
-    sampled-taken p.n p.row_ptr.now p.col_idx.now a.tau a.fraction1 a.fraction2 l.starts.now l.ends.now l.a_starts.now l.a_ends.now
-    a.work.now _ _ l.values_len l.weights_len.0 c.requires c.in_ok-sample.ensures _ _ refl
+    let p = a.lists.pattern in
+    let f = a.fractions in
+    let v = a.lists.values in
+    let weights = a.lists.weights in
+    sampled-taken p.n p.row_ptr.now p.col_idx.now a.tau f.first f.second v.start.now v.end.now weights.start.now weights.end.now
+    a.work.now _ _ a.lists.values_len a.lists.weights_len c.requires c.in_ok-sample.ensures _ _ refl
     c.in_ok-sample_weights.ensures _ refl c.weight_roots.ensures c.sampled_taylor4.ensures

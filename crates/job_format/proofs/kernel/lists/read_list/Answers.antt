@@ -18,4 +18,4 @@ loop-i-init g c = sym (tabulate-none _)
 
 pub loop-i-preserved : goal.loop-i-preserved
 loop-i-preserved g c =
-    next _ c.loop-i.target c.loop-i.i c.read.result (omega arith) c.loop-i.invariant (rw c.SIZE.ensures at c.read.ensures)
+    next _ c.loop-i.target c.loop-i.i c.read.result (omega arith) c.loop-i.invariant c.read.ensures

@@ -1,7 +1,7 @@
 -- Each turn reads the next element.
-use Rattle.std.proofs.Common.{◌≡◌, ◌+◌, ◌*◌, take}
+use Rattle.std.proofs.Common.{◌≡◌, take}
 use Rattle.arithmetic.specs.Vector.{tabulate}
 use Rattle.job_format.proofs.kernel.lists.read_list.Given as goal
 
 abbrev pub invariant-loop-i : goal.invariant-loop-i
-invariant-loop-i g l = take l.i l.target ≡ tabulate (λ k. g.T.Element.value l.bytes (l.at + g.T.Element.SIZE * k)) l.i
+invariant-loop-i g l = take l.i l.target ≡ tabulate (g.T.Element.value l.bytes l.at) l.i

@@ -1,6 +1,6 @@
 -- A term of the weighted Ω of order 4 meets the contract of the trait: the four weighted products are placed as the formula asks, d over v, which is
 -- no longer needed; then Ωv is formed of them over d, and the coefficient times Ωv is added to the sum. Assumes nothing.
-use Rattle.std.proofs.Common.{refl, ◌≡◌, ℕ, ◌*◌, List, Float, arith}
+use Rattle.std.proofs.Common.{◌≡◌, ℕ, ◌*◌, List, Float, arith}
 use mathlib.Core.Path.{subst}
 use Rattle.std.specs.Float.{binary64}
 use Rattle.rounding.specs.StepLength.{minus_half}
@@ -31,12 +31,12 @@ returns c =
     let r1 = o.first.roots.now in
     let r2 = o.second.roots.now in
     let room = c.requires in
-    let a = weighted-placed A n L1 r1 n (2 * n) args.work.now _ room (omega arith) (omega arith) refl in
+    let a = weighted-placed A n L1 r1 n (2 * n) args.work.now _ room (omega arith) (omega arith) c.product_in.ensures in
     let room1 = room-left A n a (6 * n) room in
-    let b = weighted-placed A n L2 r2 n (3 * n) _ _ room1 (omega arith) (omega arith) (product-of L2 r2 n (3 * n) _ o.same_nodes c.two_products_in.ensures) in
+    let b = weighted-placed A n L2 r2 n (3 * n) _ _ room1 (omega arith) (omega arith) (product-of L2 r2 n (3 * n) _ o.same_nodes c.product_in-2.ensures) in
     let room2 = room-left A n b (6 * n) room1 in
-    let d = weighted-placed A n L1 r1 (3 * n) n _ _ room2 (omega arith) (omega arith) refl in
+    let d = weighted-placed A n L1 r1 (3 * n) n _ _ room2 (omega arith) (omega arith) c.product_in-3.ensures in
     let room3 = room-left A n d (6 * n) room2 in
-    let e = weighted-placed A n L2 r2 (2 * n) (4 * n) _ _ room3 (omega arith) (omega arith) (product-of L2 r2 (2 * n) (4 * n) _ o.same_nodes c.two_products_in-2.ensures) in
+    let e = weighted-placed A n L2 r2 (2 * n) (4 * n) _ _ room3 (omega arith) (omega arith) (product-of L2 r2 (2 * n) (4 * n) _ o.same_nodes c.product_in-4.ensures) in
     term4-added A n (6 * n) minus_half f.s f.sign f.tau args.coefficient (weighted A n r1 L1) (weighted A n r2 L2)
     args.work.now _ _ _ _ _ _ (omega (arith, room)) (omega arith) a b d e c.omega_sum.ensures c.add_scaled.ensures

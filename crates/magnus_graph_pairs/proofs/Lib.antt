@@ -1,0 +1,2 @@
+pub mod Forming
+pub mod Term
