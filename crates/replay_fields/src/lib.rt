@@ -1,36 +1,23 @@
-// The fields of a case, read one after the other (lists/README.md has the format). All numbers are little-endian.
+// The fields of a case, read one after the other (lists/README.md has the format). All numbers are little-endian. A slice is read to room that
+// is lent for it, as a program that replays a list has no heap: it takes no more memory for a longer list, and cannot run out of it.
 #![tactic(auto)]
 
-use float_bits::from_bits;
-use std::alloc::{AllocError, AllocFailed, Global};
+use float_bits::{from_bits, has_bits};
 use std::num::TryFromIntError;
 
 pub mod parts;
 
-// Why a case cannot be replayed.
-#[derive(Debug, Drop)]
-pub enum Fault {
-    // The bytes are no case of its kind.
-    Malformed,
-    OutOfMemory(AllocError),
-}
+// The most bytes of fields that a case has.
+pub const LONGEST: usize = 65536;
 
-impl From<AllocError> for Fault {
-    fn from(error: AllocError) -> Fault {
-        Fault::OutOfMemory(error)
-    }
-}
-
-impl<T: Drop> From<AllocFailed<T>> for Fault {
-    fn from(failed: AllocFailed<T>) -> Fault {
-        Fault::OutOfMemory(AllocError::from(failed))
-    }
-}
+// The bytes of a case are none of its kind, or there is no room for what they hold.
+#[derive(Clone, Copy, Debug)]
+pub struct Malformed;
 
 // A number that is too large for where it is used.
-impl From<TryFromIntError> for Fault {
-    fn from(_error: TryFromIntError) -> Fault {
-        Fault::Malformed
+impl From<TryFromIntError> for Malformed {
+    fn from(_error: TryFromIntError) -> Malformed {
+        Malformed
     }
 }
 
@@ -38,18 +25,15 @@ impl From<TryFromIntError> for Fault {
 #[derive(Clone, Copy)]
 pub struct Fields<'a> {
     rest: &'a [u8],
-    alloc: Global,
+    is_longest: bool,
 }
 
 impl<'a> Fields<'a> {
-    // What the fields hold is allocated by `alloc`.
-    pub fn new(alloc: Global, bytes: &'a [u8]) -> Fields<'a> {
-        Fields { rest: bytes, alloc }
-    }
-
-    // What allocates the slices of a case.
-    pub fn alloc(&self) -> Global {
-        self.alloc
+    pub fn new(bytes: &'a [u8]) -> Fields<'a> {
+        Fields {
+            rest: bytes,
+            is_longest: LONGEST <= bytes.len(),
+        }
     }
 
     // Whether every field has been read.
@@ -58,41 +42,53 @@ impl<'a> Fields<'a> {
     }
 
     // So many bytes.
-    pub fn bytes(&mut self, count: usize) -> Result<&'a [u8], Fault> {
-        let (bytes, rest) = self.rest.split_at_checked(count).ok_or(Fault::Malformed)?;
+    pub fn bytes(&mut self, count: usize) -> Result<&'a [u8], Malformed> {
+        let (bytes, rest) = self.rest.split_at_checked(count).ok_or(Malformed)?;
         self.rest = rest;
         Ok(bytes)
     }
 
-    // The bytes of a number.
-    fn array<const N: usize>(&mut self) -> Result<[u8; N], Fault> {
-        let (bytes, rest) = self.rest.split_first_chunk::<N>().ok_or(Fault::Malformed)?;
+    // The bytes of a number. A longest case does not end with a number.
+    fn array<const N: usize>(&mut self) -> Result<[u8; N], Malformed> {
+        let (bytes, rest) = self.rest.split_first_chunk::<N>().ok_or(Malformed)?;
+        if self.is_longest && rest.is_empty() {
+            return Err(Malformed);
+        }
         self.rest = rest;
         Ok(*bytes)
     }
 
     // The next field.
-    pub fn read<T: Field>(&mut self) -> Result<T, Fault> {
+    pub fn read<T: Field>(&mut self) -> Result<T, Malformed> {
         T::read(self)
     }
 
-    // So many elements.
-    pub fn elements<T: Field>(&mut self, count: usize) -> Result<Vec<T>, Fault> {
-        let mut elements = Vec::new(self.alloc);
-        for _ in 0..count {
-            elements.push(self.read()?)?;
+    // A slice, to the start of its room: the count of its elements, then the elements.
+    pub fn slice<'r, T: Field>(&mut self, room: &'r mut [T]) -> Result<&'r mut [T], Malformed> {
+        let count: u32 = self.read()?;
+        let slice = room.get_mut(..count as usize).ok_or(Malformed)?;
+        for element in slice.iter_mut() {
+            *element = self.read()?;
         }
-        Ok(elements)
+        Ok(slice)
     }
 
-    // A slice: the count of its elements, then the elements.
-    pub fn slice<T: Field>(&mut self) -> Result<Vec<T>, Fault> {
+    // Whether a slice has these reals, in every bit. Any NaN matches any NaN.
+    pub fn are_reals(&mut self, values: &[f64]) -> Result<bool, Malformed> {
         let count: u32 = self.read()?;
-        self.elements(count as usize)
+        if count as usize != values.len() {
+            return Ok(false);
+        }
+        for x in values {
+            if !has_bits(*x, self.read()?) {
+                return Ok(false);
+            }
+        }
+        Ok(true)
     }
 
     // A slice of bytes.
-    pub fn byte_slice(&mut self) -> Result<&'a [u8], Fault> {
+    pub fn byte_slice(&mut self) -> Result<&'a [u8], Malformed> {
         let count: u32 = self.read()?;
         self.bytes(count as usize)
     }
@@ -100,59 +96,67 @@ impl<'a> Fields<'a> {
 
 // What a case can hold as a field, or as several that belong together.
 pub trait Field: Drop {
-    fn read(fields: &mut Fields<'_>) -> Result<Self, Fault>;
+    fn read(fields: &mut Fields<'_>) -> Result<Self, Malformed>;
 }
 
 // The numbers have an impl each, which differ in the type: no trait has `from_le_bytes` of all four, so a generic impl would need one with as
 // many impls, and `rt verdict` refuses those that a macro of the repository writes.
 impl Field for u16 {
-    fn read(fields: &mut Fields<'_>) -> Result<u16, Fault> {
+    fn read(fields: &mut Fields<'_>) -> Result<u16, Malformed> {
         Ok(u16::from_le_bytes(fields.array()?))
     }
 }
 
 impl Field for u32 {
-    fn read(fields: &mut Fields<'_>) -> Result<u32, Fault> {
+    fn read(fields: &mut Fields<'_>) -> Result<u32, Malformed> {
         Ok(u32::from_le_bytes(fields.array()?))
     }
 }
 
 impl Field for u64 {
-    fn read(fields: &mut Fields<'_>) -> Result<u64, Fault> {
+    fn read(fields: &mut Fields<'_>) -> Result<u64, Malformed> {
         Ok(u64::from_le_bytes(fields.array()?))
     }
 }
 
 impl Field for usize {
-    fn read(fields: &mut Fields<'_>) -> Result<usize, Fault> {
+    fn read(fields: &mut Fields<'_>) -> Result<usize, Malformed> {
         Ok(usize::from_le_bytes(fields.array()?))
     }
 }
 
 // A real, stored as its bit pattern.
 impl Field for f64 {
-    fn read(fields: &mut Fields<'_>) -> Result<f64, Fault> {
+    fn read(fields: &mut Fields<'_>) -> Result<f64, Malformed> {
         Ok(from_bits(fields.read()?))
+    }
+}
+
+// A law, stored as a count.
+impl Field for u8 {
+    fn read(fields: &mut Fields<'_>) -> Result<u8, Malformed> {
+        let count: u64 = fields.read()?;
+        Ok(u8::try_from(count)?)
     }
 }
 
 // A flag.
 impl Field for bool {
-    fn read(fields: &mut Fields<'_>) -> Result<bool, Fault> {
+    fn read(fields: &mut Fields<'_>) -> Result<bool, Malformed> {
         Ok(fields.array()? == [1])
     }
 }
 
 // Two that stand one behind the other.
 impl<A: Field, B: Field> Field for (A, B) {
-    fn read(fields: &mut Fields<'_>) -> Result<(A, B), Fault> {
+    fn read(fields: &mut Fields<'_>) -> Result<(A, B), Malformed> {
         Ok((fields.read()?, fields.read()?))
     }
 }
 
 // Nothing.
 impl Field for () {
-    fn read(_fields: &mut Fields<'_>) -> Result<(), Fault> {
+    fn read(_fields: &mut Fields<'_>) -> Result<(), Malformed> {
         Ok(())
     }
 }

@@ -4,12 +4,12 @@
 
 use crate::networks::{bound_right, parts_right, product_right};
 use crate::signals::{copy_right, sum_right};
-use replay::replay;
-use replay_fields::{Fault, Fields};
+use replay::kernel::replay;
+use replay_fields::parts::Room;
+use replay_fields::{Fields, Malformed};
 use replay_limits::{
     most_columns_right, most_nodes_right, too_many_columns_right, too_many_nodes_right,
 };
-use std::io;
 
 mod networks;
 mod signals;
@@ -27,37 +27,47 @@ enum Call {
 // The call of the cases of a kind. Each replay has such a table of its own, and no row of it is in another: one function over a list of numbers and
 // kinds would be given as many rows.
 impl TryFrom<u16> for Call {
-    type Error = Fault;
+    type Error = Malformed;
 
-    fn try_from(kind: u16) -> Result<Call, Fault> {
+    fn try_from(kind: u16) -> Result<Call, Malformed> {
         match kind {
             2 => Ok(Call::FromCsrParts),
             3 => Ok(Call::GershgorinBoundCsr),
             4 => Ok(Call::ApplyIntoSlice),
             5 => Ok(Call::CopyFrom),
             6 => Ok(Call::AxpyIntoSlice),
-            _ => Err(Fault::Malformed),
+            _ => Err(Malformed),
         }
     }
 }
 
-// Whether a call does what the case says.
-fn is_right(call: Call, fields: &mut Fields<'_>) -> Result<bool, Fault> {
+// Whether a call does what the case says. The rooms are for the longest slices of the list.
+fn is_right(
+    call: Call,
+    fields: &mut Fields<'_>,
+    room: &mut Room<4098, 128, 128>,
+    src: &mut [f64],
+    dst: &mut [f64],
+) -> Result<bool, Malformed> {
     match call {
-        Call::FromCsrParts => parts_right(fields),
-        Call::GershgorinBoundCsr => bound_right(fields),
-        Call::ApplyIntoSlice => product_right(fields),
-        Call::CopyFrom => copy_right(fields),
-        Call::AxpyIntoSlice => sum_right(fields),
+        Call::FromCsrParts => parts_right(room.read(fields)?, fields),
+        Call::GershgorinBoundCsr => bound_right(room.read(fields)?, fields),
+        Call::ApplyIntoSlice => product_right(room.read(fields)?, fields, src, dst),
+        Call::CopyFrom => copy_right(fields, dst, src),
+        Call::AxpyIntoSlice => sum_right(fields, dst, src),
     }
 }
 
-fn main(rt: HostRuntime) -> io::Result<()> {
-    let alloc = rt.alloc();
-    let mut tally = replay(&rt, is_right)?;
-    tally.count(&rt, too_many_columns_right(alloc)?)?;
-    tally.count(&rt, most_columns_right(alloc)?)?;
-    tally.count(&rt, most_nodes_right(alloc)?)?;
-    tally.count(&rt, too_many_nodes_right(alloc)?)?;
-    println!(rt; "{tally}")
+fn main(rt: HostRuntime) {
+    let mut room = Room::new();
+    let mut src = [0.0; 128];
+    let mut dst = [0.0; 128];
+    let mut tally = replay(&rt, |call, fields| {
+        is_right(call, fields, &mut room, &mut src, &mut dst)
+    });
+    tally.count(&rt, too_many_columns_right());
+    tally.count(&rt, most_columns_right());
+    tally.count(&rt, most_nodes_right());
+    tally.count(&rt, too_many_nodes_right());
+    let _ = println!(rt; "{tally}");
 }

@@ -1,23 +1,29 @@
 // The calls on signals.
 use graph_signal::{axpy_into_slice, copy_from};
-use replay_answers::Outcome;
-use replay_fields::{Fault, Fields};
+use replay_answers::is_written;
+use replay_fields::{Fields, Malformed};
 
 // Whether `copy_from` answers and writes what the case says.
-pub fn copy_right(fields: &mut Fields<'_>) -> Result<bool, Fault> {
-    let mut signal: Vec<f64> = fields.slice()?;
-    let src: Vec<f64> = fields.slice()?;
-    let outcome: Outcome = fields.read()?;
-    let answered = copy_from(&mut signal, &src);
-    Ok(outcome.is(answered, &signal))
+pub fn copy_right(
+    fields: &mut Fields<'_>,
+    signal: &mut [f64],
+    src: &mut [f64],
+) -> Result<bool, Malformed> {
+    let signal = fields.slice(signal)?;
+    let src = fields.slice(src)?;
+    let answered = copy_from(signal, src);
+    is_written(answered, signal, fields)
 }
 
 // Whether `axpy_into_slice` answers and writes what the case says.
-pub fn sum_right(fields: &mut Fields<'_>) -> Result<bool, Fault> {
-    let mut signal: Vec<f64> = fields.slice()?;
+pub fn sum_right(
+    fields: &mut Fields<'_>,
+    signal: &mut [f64],
+    src: &mut [f64],
+) -> Result<bool, Malformed> {
+    let signal = fields.slice(signal)?;
     let alpha: f64 = fields.read()?;
-    let src: Vec<f64> = fields.slice()?;
-    let outcome: Outcome = fields.read()?;
-    let answered = axpy_into_slice(&mut signal, alpha, &src);
-    Ok(outcome.is(answered, &signal))
+    let src = fields.slice(src)?;
+    let answered = axpy_into_slice(signal, alpha, src);
+    is_written(answered, signal, fields)
 }

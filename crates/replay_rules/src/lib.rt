@@ -1,87 +1,91 @@
-// What a case gives by rules, kinds 16 to 19 (lists/README.md has the rules).
+// What a case gives by rules, kinds 16 to 19 (lists/README.md has the rules), each slice to the start of its room.
 #![tactic(auto)]
 
-use replay_fields::{Fault, Field, Fields};
-
-// The most elements that a rule gives: of the lists, a pool has the most, four times as many as columns.
-const MOST: usize = 262_144;
-
-// A length that a rule can give.
-fn length_by_rule(length: usize) -> Result<usize, Fault> {
-    if MOST < length {
-        return Err(Fault::Malformed);
-    }
-    Ok(length)
-}
+use replay_fields::{Field, Fields, Malformed};
 
 // Reads a field, and gives it so many times.
-pub fn repeat_one<T: Field + Copy>(
+pub fn repeat_one<'r, T: Field + Copy>(
     fields: &mut Fields<'_>,
     length: usize,
-) -> Result<Vec<T>, Fault> {
+    room: &'r mut [T],
+) -> Result<&'r mut [T], Malformed> {
     let element: T = fields.read()?;
-    let length = length_by_rule(length)?;
-    Ok(vec![in fields.alloc(); element; length]?)
+    let slice = room.get_mut(..length).ok_or(Malformed)?;
+    for place in slice.iter_mut() {
+        *place = element;
+    }
+    Ok(slice)
 }
 
-// Reads a slice, and gives so many elements: where those of the case end, they start again from the first.
-pub fn repeat_slice<T: Field + Copy>(
+// Reads a slice whose elements have 8 bytes, and gives so many: where those of the case end, they start again from the first.
+pub fn repeat_slice<'r, T: Field + Copy>(
     fields: &mut Fields<'_>,
     length: usize,
-) -> Result<Vec<T>, Fault> {
-    let elements: Vec<T> = fields.slice()?;
-    let length = length_by_rule(length)?;
-    let repeated = elements.iter().cycle().take(length).copied();
-    Ok(repeated.collect(fields.alloc())?)
+    room: &'r mut [T],
+) -> Result<&'r mut [T], Malformed> {
+    let count: u32 = fields.read()?;
+    let slice = room.get_mut(..length).ok_or(Malformed)?;
+    let elements = *fields;
+    let mut next = elements;
+    let mut left = count;
+    for element in slice.iter_mut() {
+        if left == 0 {
+            next = elements;
+            left = count;
+        }
+        *element = next.read()?;
+        left = left.saturating_sub(1);
+    }
+    fields.bytes((count as usize).saturating_mul(8))?;
+    Ok(slice)
 }
 
 // Reads increments, and gives the breakpoints of so many segments: +0, and then each the sum of the one before and the next increment.
-pub fn sum_increments(fields: &mut Fields<'_>, segments: usize) -> Result<Vec<f64>, Fault> {
-    let increments: Vec<f64> = repeat_slice(fields, segments)?;
-    let mut breakpoints = Vec::new(fields.alloc());
+pub fn sum_increments<'r>(
+    fields: &mut Fields<'_>,
+    segments: usize,
+    room: &'r mut [f64],
+) -> Result<&'r mut [f64], Malformed> {
+    let breakpoints = repeat_slice(fields, segments.saturating_add(1), room)?;
     let mut time = 0.0;
-    breakpoints.push(time)?;
-    for increment in &increments {
-        time += *increment;
-        breakpoints.push(time)?;
+    for breakpoint in breakpoints.iter_mut() {
+        let increment = *breakpoint;
+        *breakpoint = time;
+        time += increment;
     }
     Ok(breakpoints)
 }
 
 // Gives n + 1 row starts: row start i is first + i·width, but at most the entries.
-pub fn row_starts(
-    fields: &Fields<'_>,
+pub fn row_starts<'r>(
     n: usize,
     first: usize,
     width: usize,
     entries: usize,
-) -> Result<Vec<usize>, Fault> {
-    let mut starts = Vec::new(fields.alloc());
+    room: &'r mut [usize],
+) -> Result<&'r mut [usize], Malformed> {
+    let starts = room.get_mut(..n.saturating_add(1)).ok_or(Malformed)?;
     let mut start = first;
-    for _ in 0..=length_by_rule(n)? {
+    for row_start in starts.iter_mut() {
         start = start.min(entries);
-        starts.push(start)?;
+        *row_start = start;
         start = start.saturating_add(width);
     }
     Ok(starts)
 }
 
-// Gives the columns of the entries: column k is (k·stride) mod n. Both factors are below 2^19, so their product does not saturate.
-pub fn columns(
-    fields: &Fields<'_>,
+// Gives the columns of the entries: column k is (k·stride) mod n. Both factors are as small as their rooms, so that their product does not saturate.
+pub fn columns<'r>(
     n: usize,
     entries: usize,
     stride: usize,
-) -> Result<Vec<u32>, Fault> {
-    let n = length_by_rule(n)?;
+    room: &'r mut [u32],
+) -> Result<&'r mut [u32], Malformed> {
+    let columns = room.get_mut(..entries).ok_or(Malformed)?;
     let stride = stride.checked_rem(n).unwrap_or(0);
-    (0..length_by_rule(entries)?)
-        .map(|k| -> Result<u32, Fault> {
-            let column = k
-                .saturating_mul(stride)
-                .checked_rem(n)
-                .ok_or(Fault::Malformed)?;
-            Ok(u32::try_from(column)?)
-        })
-        .try_collect(fields.alloc())
+    for (k, column) in columns.iter_mut().enumerate() {
+        let product = k.saturating_mul(stride);
+        *column = u32::try_from(product.checked_rem(n).ok_or(Malformed)?)?;
+    }
+    Ok(columns)
 }

@@ -1,10 +1,11 @@
 // What a case of a run holds before the output, and the cases of lookups.
 #![tactic(auto)]
 
+use graph_traj_parts::Trajectory;
 use magnus_graph_checks::SpectralBound;
-use replay_fields::parts::Weights;
-use replay_fields::{Fault, Fields};
-use replay_trajectories::{Form, Trajectory, read_trajectory};
+use replay_fields::{Fields, Malformed};
+use replay_trajectories::{Form, Room, read_trajectory};
+use varcoef_magnus_graph_checks::NodeWeights;
 
 pub mod lookups;
 
@@ -17,14 +18,14 @@ pub enum RunKind {
 }
 
 // The call of a run, with what only that call takes: the step length, and the weights.
-#[derive(Drop)]
-pub enum Call {
+#[derive(Clone, Copy)]
+pub enum Call<'r> {
     Forward,
     Adjoint { tau: f64 },
-    WeightedAdjoint { tau: f64, weights: Weights },
+    WeightedAdjoint { tau: f64, weights: NodeWeights<'r> },
 }
 
-impl Call {
+impl Call<'_> {
     // How many elements of the work slice a run needs for each node.
     fn work_by_node(&self) -> usize {
         match self {
@@ -35,65 +36,83 @@ impl Call {
 }
 
 // What a run takes beside the slices that it writes.
-#[derive(Drop)]
-pub struct Run {
-    pub trajectory: Trajectory,
+#[derive(Clone, Copy)]
+pub struct Run<'r> {
+    pub trajectory: Trajectory<'r>,
     // How many there are, in each segment of a forward run.
     pub steps: usize,
     pub bound: SpectralBound,
-    pub call: Call,
-    pub src: Vec<f64>,
+    pub call: Call<'r>,
+    pub src: &'r [f64],
 }
 
-impl Run {
+impl Run<'_> {
     // How many elements of the work slice the run needs: so many for each node, and 2 for each column.
     pub fn work_need(&self) -> usize {
-        let nodes = self
-            .trajectory
-            .pattern
-            .n
-            .saturating_mul(self.call.work_by_node());
-        let columns = self.trajectory.pattern.col_idx.len().saturating_mul(2);
+        let nodes = self.trajectory.n.saturating_mul(self.call.work_by_node());
+        let columns = self.trajectory.col_idx.len().saturating_mul(2);
         nodes.saturating_add(columns)
     }
 }
 
+// Room for the slices that a run takes.
+#[derive(Drop)]
+pub struct RunRoom {
+    pub trajectory: Room,
+    weights1: [f64; 8192],
+    weights2: [f64; 8192],
+    src: [f64; 8192],
+}
+
+impl RunRoom {
+    pub fn new() -> Self {
+        RunRoom {
+            trajectory: Room::new(),
+            weights1: [0.0; 8192],
+            weights2: [0.0; 8192],
+            src: [0.0; 8192],
+        }
+    }
+}
+
 // Reads a run of a kind. The step length stands before the steps and the bound, and the weights behind them.
-pub fn read_run(kind: RunKind, form: Form, fields: &mut Fields<'_>) -> Result<Run, Fault> {
-    let trajectory = read_trajectory(form, fields)?;
-    let n = trajectory.pattern.n;
-    let ((steps, bound), call) = read_call(kind, form, fields, n)?;
+pub fn read_run<'r>(
+    kind: RunKind,
+    form: Form,
+    fields: &mut Fields<'_>,
+    room: &'r mut RunRoom,
+) -> Result<Run<'r>, Malformed> {
+    let RunRoom {
+        trajectory,
+        weights1,
+        weights2,
+        src,
+    } = room;
+    let trajectory = read_trajectory(form, fields, trajectory)?;
+    let n = trajectory.n;
+    let tau: f64 = match kind {
+        RunKind::Forward => 0.0,
+        RunKind::Adjoint | RunKind::WeightedAdjoint => fields.read()?,
+    };
+    let (steps, bound): (usize, SpectralBound) = fields.read()?;
+    let call = match kind {
+        RunKind::Forward => Call::Forward,
+        RunKind::Adjoint => Call::Adjoint { tau },
+        RunKind::WeightedAdjoint => {
+            let weights = NodeWeights {
+                a_sup_max: fields.read()?,
+                first: form.slice(fields, n, weights1)?,
+                second: form.slice(fields, n, weights2)?,
+            };
+            Call::WeightedAdjoint { tau, weights }
+        }
+    };
+    let src = form.slice(fields, n, src)?;
     Ok(Run {
         trajectory,
         steps,
         bound,
         call,
-        src: form.slice(fields, n)?,
+        src,
     })
-}
-
-// Reads the steps and the bound of a run of a kind, and what only its call takes.
-fn read_call(
-    kind: RunKind,
-    form: Form,
-    fields: &mut Fields<'_>,
-    n: usize,
-) -> Result<((usize, SpectralBound), Call), Fault> {
-    match kind {
-        RunKind::Forward => Ok((fields.read()?, Call::Forward)),
-        RunKind::Adjoint => {
-            let tau: f64 = fields.read()?;
-            Ok((fields.read()?, Call::Adjoint { tau }))
-        }
-        RunKind::WeightedAdjoint => {
-            let tau: f64 = fields.read()?;
-            let numbers: (usize, SpectralBound) = fields.read()?;
-            let weights = Weights {
-                a_sup_max: fields.read()?,
-                first: form.slice(fields, n)?,
-                second: form.slice(fields, n)?,
-            };
-            Ok((numbers, Call::WeightedAdjoint { tau, weights }))
-        }
-    }
 }

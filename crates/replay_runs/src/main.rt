@@ -3,12 +3,11 @@
 #![tactic(auto)]
 
 use crate::runs::run_right;
-use replay::replay;
-use replay_fields::{Fault, Fields};
-use replay_run_fields::RunKind;
+use replay::kernel::replay;
+use replay_fields::{Fields, Malformed};
 use replay_run_fields::lookups::lookup_right;
+use replay_run_fields::{RunKind, RunRoom, read_run};
 use replay_trajectories::Form;
-use std::io;
 
 mod runs;
 
@@ -27,15 +26,15 @@ struct Kind {
 }
 
 impl TryFrom<u16> for Kind {
-    type Error = Fault;
+    type Error = Malformed;
 
-    fn try_from(kind: u16) -> Result<Kind, Fault> {
+    fn try_from(kind: u16) -> Result<Kind, Malformed> {
         let call = match kind {
             12 | 16 => Call::Lookup,
             13 | 17 => Call::Run(RunKind::Forward),
             14 | 18 => Call::Run(RunKind::Adjoint),
             15 | 19 => Call::Run(RunKind::WeightedAdjoint),
-            _ => return Err(Fault::Malformed),
+            _ => return Err(Malformed),
         };
         let form = if kind < 16 {
             Form::Stored
@@ -47,14 +46,31 @@ impl TryFrom<u16> for Kind {
 }
 
 // Whether the call of a kind does what the case says.
-fn is_right(kind: Kind, fields: &mut Fields<'_>) -> Result<bool, Fault> {
-    match kind.call {
-        Call::Lookup => lookup_right(kind.form, fields),
-        Call::Run(run) => run_right(run, kind.form, fields),
+fn is_right(
+    kind: Kind,
+    fields: &mut Fields<'_>,
+    room: &mut RunRoom,
+    dst: &mut [f64],
+    work: &mut [f64],
+) -> Result<bool, Malformed> {
+    let Kind { call, form } = kind;
+    match call {
+        Call::Lookup => lookup_right(form, fields, &mut room.trajectory.breakpoints),
+        Call::Run(run) => {
+            let run = read_run(run, form, fields, room)?;
+            let dst = form.output(fields, run.trajectory.n, dst)?;
+            run_right(run, dst, fields, work)
+        }
     }
 }
 
-fn main(rt: HostRuntime) -> io::Result<()> {
-    let tally = replay(&rt, is_right)?;
-    println!(rt; "{tally}")
+// The work slices of the list have up to 176,129 elements.
+fn main(rt: HostRuntime) {
+    let mut room = RunRoom::new();
+    let mut dst = [0.0; 8192];
+    let mut work = [0.0; 176129];
+    let tally = replay(&rt, |kind, fields| {
+        is_right(kind, fields, &mut room, &mut dst, &mut work)
+    });
+    let _ = println!(rt; "{tally}");
 }

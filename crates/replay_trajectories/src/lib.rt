@@ -1,7 +1,8 @@
 // The fields of a trajectory: as they stand in the case, or by rules.
 #![tactic(auto)]
 
-use replay_fields::{Fault, Field, Fields};
+use graph_traj_parts::Trajectory;
+use replay_fields::{Field, Fields, Malformed};
 use replay_rules::{columns, repeat_one, repeat_slice, row_starts, sum_increments};
 
 // How a case gives its slices.
@@ -12,126 +13,118 @@ pub enum Form {
 }
 
 impl Form {
-    // Reads a slice as it stands, or what a rule gives in its place.
-    fn slice_or<T: Field, F: FnOnce(&mut Fields<'_>) -> Result<Vec<T>, Fault> + Drop>(
-        self,
-        fields: &mut Fields<'_>,
-        rule: F,
-    ) -> Result<Vec<T>, Fault>
-        requires { F.IsAlwaysCallable rule }
-    {
-        match self {
-            Form::Stored => fields.slice(),
-            Form::ByRules => rule(fields),
-        }
-    }
-
-    // Reads a slice that has the length where rules give it.
-    pub fn slice<T: Field + Copy>(
+    // Reads a slice, to the start of its room. By rules it has the length.
+    pub fn slice<'r, T: Field + Copy>(
         self,
         fields: &mut Fields<'_>,
         length: usize,
-    ) -> Result<Vec<T>, Fault> {
-        self.slice_or(fields, |fields| repeat_slice(fields, length))
+        room: &'r mut [T],
+    ) -> Result<&'r mut [T], Malformed> {
+        match self {
+            Form::Stored => fields.slice(room),
+            Form::ByRules => repeat_slice(fields, length, room),
+        }
     }
 
     // Reads the output before a call. By rules it has n elements, each the real that stands there.
-    pub fn output(self, fields: &mut Fields<'_>, n: usize) -> Result<Vec<f64>, Fault> {
-        self.slice_or(fields, |fields| repeat_one(fields, n))
+    pub fn output<'r>(
+        self,
+        fields: &mut Fields<'_>,
+        n: usize,
+        room: &'r mut [f64],
+    ) -> Result<&'r mut [f64], Malformed> {
+        match self {
+            Form::Stored => fields.slice(room),
+            Form::ByRules => repeat_one(fields, n, room),
+        }
     }
 
     // Reads the breakpoints of so many segments.
-    pub fn breakpoints(self, fields: &mut Fields<'_>, segments: usize) -> Result<Vec<f64>, Fault> {
-        self.slice_or(fields, |fields| sum_increments(fields, segments))
-    }
-
-    // Reads the laws, which are counts in a case and bytes in a call.
-    fn laws(self, fields: &mut Fields<'_>, segments: usize) -> Result<Vec<u8>, Fault> {
-        let counts: Vec<u64> = self.slice(fields, segments)?;
-        let mut laws = Vec::new(fields.alloc());
-        for count in &counts {
-            laws.push(u8::try_from(*count)?)?;
-        }
-        Ok(laws)
-    }
-
-    // Reads the pattern.
-    fn pattern(self, fields: &mut Fields<'_>) -> Result<Pattern, Fault> {
+    pub fn breakpoints<'r>(
+        self,
+        fields: &mut Fields<'_>,
+        segments: usize,
+        room: &'r mut [f64],
+    ) -> Result<&'r mut [f64], Malformed> {
         match self {
-            Form::Stored => Ok(Pattern {
-                n: fields.read()?,
-                row_ptr: fields.slice()?,
-                col_idx: fields.slice()?,
-            }),
-            Form::ByRules => pattern_by_rules(fields),
+            Form::Stored => fields.slice(room),
+            Form::ByRules => sum_increments(fields, segments, room),
+        }
+    }
+
+    // Reads a pattern: n, the row starts and the columns.
+    fn pattern<'r>(
+        self,
+        fields: &mut Fields<'_>,
+        row_ptr: &'r mut [usize],
+        col_idx: &'r mut [u32],
+    ) -> Result<(usize, &'r [usize], &'r [u32]), Malformed> {
+        let n: usize = fields.read()?;
+        match self {
+            Form::Stored => Ok((n, fields.slice(row_ptr)?, fields.slice(col_idx)?)),
+            Form::ByRules => {
+                let first: usize = fields.read()?;
+                let width: usize = fields.read()?;
+                let entries: usize = fields.read()?;
+                let stride: usize = fields.read()?;
+                let row_ptr = row_starts(n, first, width, entries, row_ptr)?;
+                Ok((n, row_ptr, columns(n, entries, stride, col_idx)?))
+            }
         }
     }
 }
 
-// The pattern of every sample: n, the row starts and the columns.
+// Room for the slices of a trajectory: for every one that a case of 65,536 bytes can have, or that the rules of the list give. There are up to 65,536
+// columns and segments, and a pool is four times as long.
 #[derive(Drop)]
-pub struct Pattern {
-    pub n: usize,
-    pub row_ptr: Vec<usize>,
-    pub col_idx: Vec<u32>,
+pub struct Room {
+    row_ptr: [usize; 8192],
+    col_idx: [u32; 65536],
+    pub breakpoints: [f64; 65537],
+    starts: [f64; 262144],
+    ends: [f64; 262144],
+    laws: [u8; 65536],
 }
 
-// Reads the five counts by which a rule gives a pattern.
-fn pattern_by_rules(fields: &mut Fields<'_>) -> Result<Pattern, Fault> {
-    let n: usize = fields.read()?;
-    let first: usize = fields.read()?;
-    let width: usize = fields.read()?;
-    let entries: usize = fields.read()?;
-    let stride: usize = fields.read()?;
-    Ok(Pattern {
-        n,
-        row_ptr: row_starts(fields, n, first, width, entries)?,
-        col_idx: columns(fields, n, entries, stride)?,
-    })
-}
-
-// A trajectory: the pattern, and for each segment the values at its start and at its end, and the law between them.
-#[derive(Drop)]
-pub struct Trajectory {
-    pub pattern: Pattern,
-    pub segments: usize,
-    pub breakpoints: Vec<f64>,
-    pub starts: Vec<f64>,
-    pub ends: Vec<f64>,
-    pub laws: Vec<u8>,
-}
-
-impl Trajectory {
-    // Its parts, as the runs take them: borrowed, so a method, as for a sample.
-    pub fn parts(&self) -> graph_traj_parts::Trajectory<'_> {
-        graph_traj_parts::Trajectory {
-            n: self.pattern.n,
-            row_ptr: &self.pattern.row_ptr,
-            col_idx: &self.pattern.col_idx,
-            segments: self.segments,
-            breakpoints: &self.breakpoints,
-            starts: &self.starts,
-            ends: &self.ends,
-            laws: &self.laws,
+impl Room {
+    pub fn new() -> Self {
+        Room {
+            row_ptr: [0; 8192],
+            col_idx: [0; 65536],
+            breakpoints: [0.0; 65537],
+            starts: [0.0; 262144],
+            ends: [0.0; 262144],
+            laws: [0; 65536],
         }
     }
 }
 
 // Reads a trajectory.
-pub fn read_trajectory(form: Form, fields: &mut Fields<'_>) -> Result<Trajectory, Fault> {
-    let pattern = form.pattern(fields)?;
-    let segments: usize = fields.read()?;
-    let breakpoints = form.breakpoints(fields, segments)?;
-    let length = segments.saturating_mul(pattern.col_idx.len());
-    let starts = form.slice(fields, length)?;
-    let ends = form.slice(fields, length)?;
-    let laws = form.laws(fields, segments)?;
-    Ok(Trajectory {
-        pattern,
-        segments,
+pub fn read_trajectory<'r>(
+    form: Form,
+    fields: &mut Fields<'_>,
+    room: &'r mut Room,
+) -> Result<Trajectory<'r>, Malformed> {
+    let Room {
+        row_ptr,
+        col_idx,
         breakpoints,
         starts,
         ends,
         laws,
+    } = room;
+    let (n, row_ptr, col_idx) = form.pattern(fields, row_ptr, col_idx)?;
+    let segments: usize = fields.read()?;
+    let breakpoints = form.breakpoints(fields, segments, breakpoints)?;
+    let length = segments.saturating_mul(col_idx.len());
+    Ok(Trajectory {
+        n,
+        row_ptr,
+        col_idx,
+        segments,
+        breakpoints,
+        starts: form.slice(fields, length, starts)?,
+        ends: form.slice(fields, length, ends)?,
+        laws: form.slice(fields, segments, laws)?,
     })
 }

@@ -3,20 +3,19 @@
 
 use float_bits::from_bits;
 use square_root::sqrt;
-use std::io;
 
-// One line. A root that is a NaN is printed as that.
-fn print_root(rt: &impl Print, bits: u64) -> io::Result<()> {
+// One line. A root that is a NaN is printed as that. A line that cannot be written is left out.
+fn print_root(rt: &impl Print, bits: u64) {
     let root = sqrt(from_bits(bits));
-    if root.is_nan() {
+    let _ = if root.is_nan() {
         println!(rt; "sqrt {bits:016x} = NaN")
     } else {
         let root_bits = root.to_bits();
         println!(rt; "sqrt {bits:016x} = {root_bits:016x}")
-    }
+    };
 }
 
-fn main(rt: HostRuntime) -> io::Result<()> {
+fn main(rt: HostRuntime) {
     // 4, 2, 3, 2^-1074, the largest value, -0, -1
     let values = [
         0x4010_0000_0000_0000,
@@ -28,7 +27,6 @@ fn main(rt: HostRuntime) -> io::Result<()> {
         0xBFF0_0000_0000_0000,
     ];
     for bits in values {
-        print_root(&rt, bits)?;
+        print_root(&rt, bits);
     }
-    Ok(())
 }
