@@ -7,6 +7,9 @@
 ghost use Rattle.std.specs.Prelude.{◌≡◌, ◌+◌, ◌<◌, ◌≤◌, length, Float};
 ghost use Rattle.scratch.specs.Parts.{part, put, Apart, zeros, combined, Computes};
 
+// Vectors are copied element by element: the library's copies of slices are calls of the C library's `memmove`, which a program that links these
+// kernels would then have to bring.
+
 // The first `need` elements become +0 (01, "What a call answers": what is zeroed is the part that the call needed).
 pub fn clear(work: &mut [f64], need: usize)
     requires { need ≤ length work.old }
@@ -20,7 +23,9 @@ pub fn load(work: &mut [f64], at: usize, v: &[f64])
     requires { at + length v.now ≤ length work.old }
     ensures { work.new ≡ put at v.now work.old }
 {
-    work[at..at + v.len()].copy_from_slice(v);
+    for (i, x) in v.iter().enumerate() {
+        work[at + i] = *x;
+    }
 }
 
 // out becomes the vector at `at`, of as many places as out has.
@@ -28,7 +33,9 @@ pub fn store(work: &[f64], at: usize, out: &mut [f64])
     requires { at + length out.old ≤ length work.now }
     ensures { out.new ≡ part at (length out.old) work.now }
 {
-    out.copy_from_slice(&work[at..at + out.len()]);
+    for (i, y) in out.iter_mut().enumerate() {
+        *y = work[at + i];
+    }
 }
 
 // The vector at `target` becomes the one at `source`.
@@ -37,7 +44,10 @@ pub fn copy_within(work: &mut [f64], n: usize, source: usize, target: usize)
     ensures { let w = work.old in
         work.new ≡ put target (part source n w) w }
 {
-    work.copy_within(source..source + n, target);
+    // By index: both vectors lie in one slice.
+    for i in 0..n {
+        work[target + i] = work[source + i];
+    }
 }
 
 // The vector at `target` becomes what f makes, place by place, of those at x and y. None of these begins before the target and ends within
