@@ -3,10 +3,7 @@ ghost use Rattle.std.specs.Prelude.{◌≡◌, ◌+◌, ◌≤◌, length};
 ghost use Rattle.std.specs.Float.{binary64};
 ghost use Rattle.arithmetic.specs.Arithmetic.{ieee};
 ghost use Rattle.scratch.specs.Parts.{part, put};
-ghost use Rattle.magnus_graph_helpers.specs.Factors.{scale_of, comm_scale_of};
 ghost use Rattle.magnus_graph_helpers.specs.Terms.{omega4_sum};
-
-use crate::factors::Factors;
 
 // Ωv of order 4 from its products (`apply_omega4` of the Rust, after its products): the vector d at `target` becomes
 // scale · (a + b) + comm_scale · (c - d) at each place, for the vectors at a, b and c. None of these begins before the
@@ -18,17 +15,15 @@ pub fn omega_sum(
     b: usize,
     c: usize,
     target: usize,
-    factors: Factors,
+    scale: f64,
+    comm_scale: f64,
 )
     requires n_in_bounds { (a + n ≤ length work.old) × (b + n ≤ length work.old) × (c + n ≤ length work.old) }
     requires target_le_a { (target ≤ a) × (target ≤ b) × (target ≤ c) }
     ensures { let w = work.old in
-        let Ωv = omega4_sum (ieee binary64) n (scale_of factors) (comm_scale_of factors)
-        (part a n w) (part b n w) (part c n w) (part target n w) in
+        let Ωv = omega4_sum (ieee binary64) n scale comm_scale (part a n w) (part b n w) (part c n w) (part target n w) in
         work.new ≡ put target Ωv w }
 {
-    let scale = factors.scale();
-    let comm_scale = factors.comm_scale();
     // Four vectors of one slice, some of which may be the same: by index, since they cannot be lent side by side.
     for i in 0..n {
         let d = work[target + i];

@@ -8,7 +8,7 @@ ghost use Rattle.std.specs.Float.{binary64};
 ghost use Rattle.arithmetic.specs.Arithmetic.{ieee};
 ghost use Rattle.graph_rows.specs.RowProduct.{row_sum64, row_product64};
 ghost use Rattle.graph_pairs.specs.Pairs.{firsts, pairs, seconds};
-ghost use Rattle.magnus_graph_helpers.specs.Factors.{omega4_with, scale_of, comm_scale_of};
+ghost use Rattle.magnus_graph_helpers.specs.Factors.{omega4_with};
 ghost use Rattle.magnus_graph_helpers.specs.Terms.{omega4_sum};
 
 use graph_pairs::kernel::row_sums;
@@ -30,7 +30,7 @@ pub struct SharedOmega4<'a, V: Paired> {
 impl<'a, V: Paired> SharedOmega4<'a, V> {
     // The products of both samples with v, as pairs: that of the second sample, b, and then that of the first, a, since the next products are those of
     // the first sample with b and of the second with a.
-    fn products(&self, v: &[f64], products: &mut [f64])
+    pub fn products(&self, v: &[f64], products: &mut [f64])
         requires v_len { length v.now ≡ self.now.pattern.n }
         requires products_len { length products.old ≡ 2 * self.now.pattern.n }
         ensures { let o = self.now in
@@ -48,8 +48,9 @@ impl<'a, V: Paired> SharedOmega4<'a, V> {
     }
 
     // Ωv from the pairs of b and a (`apply_omega4` of the Rust, after its first products): at each place scale · (a + b) + comm_scale · (c - d),
-    // where c is the product of the second sample with a and d that of the first with b.
-    fn omega(&self, products: &[f64], image: &mut [f64])
+    // where c is the product of the second sample with a and d that of the first with b. Of any two factors: `add_term` gives those of
+    // `factors`.
+    pub fn omega(&self, products: &[f64], image: &mut [f64], scale: f64, comm_scale: f64)
         requires products_len { length products.now ≡ 2 * self.now.pattern.n }
         requires image_len { length image.old ≡ self.now.pattern.n }
         ensures { let A = ieee binary64 in
@@ -60,10 +61,8 @@ impl<'a, V: Paired> SharedOmega4<'a, V> {
             let L2 = row_product64 n p.row_ptr.now p.col_idx.now (V.seconds_of o.vals) in
             let b = firsts A n products.now in
             let a = seconds A n products.now in
-            image.new ≡ omega4_sum A n (scale_of o.factors) (comm_scale_of o.factors) a b (L2 a) (L1 b) }
+            image.new ≡ omega4_sum A n scale comm_scale a b (L2 a) (L1 b) }
     {
-        let scale = self.factors.scale();
-        let comm_scale = self.factors.comm_scale();
         let products = Pairs {
             count: self.pattern.n,
             values: products,
@@ -98,8 +97,10 @@ impl<'a, V: Paired> Omega for SharedOmega4<'a, V> {
         let (sum, behind) = work.split_at_mut(n);
         let (v, pairs) = behind.split_at_mut(n);
         let (products, _) = pairs.split_at_mut(2 * n);
+        let scale = self.factors.scale();
+        let comm_scale = self.factors.comm_scale();
         self.products(v, products);
-        self.omega(products, v);
+        self.omega(products, v, scale, comm_scale);
         add_scaled_to(v, 0, coefficient, sum);
     }
 }

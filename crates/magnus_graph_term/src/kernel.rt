@@ -42,11 +42,13 @@ impl<'a> Omega for Omega4<'a> {
         let a = 2 * n;
         let b = 3 * n;
         let c = 4 * n;
+        let scale = self.factors.scale();
+        let comm_scale = self.factors.comm_scale();
         product_in(self.first, work, n, a);
         product_in(self.second, work, n, b);
         product_in(self.first, work, b, n);
         product_in(self.second, work, a, c);
-        omega_sum(work, n, a, b, c, n, self.factors);
+        omega_sum(work, n, a, b, c, n, scale, comm_scale);
         add_scaled(work, n, coefficient, n, 0);
     }
 }

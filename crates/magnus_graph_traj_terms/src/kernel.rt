@@ -71,9 +71,11 @@ impl<'a> Omega for ConstantOmega4<'a> {
     fn add_term(&self, coefficient: f64, work: &mut [f64]) {
         let n = self.sample.pattern.n;
         let a = 2 * n;
+        let scale = self.factors.scale();
+        let comm_scale = self.factors.comm_scale();
         product_in(self.sample, work, n, a);
         product_in(self.sample, work, a, n);
-        omega_sum(work, n, a, a, n, n, self.factors);
+        omega_sum(work, n, a, a, n, n, scale, comm_scale);
         add_scaled(work, n, coefficient, n, 0);
     }
 }

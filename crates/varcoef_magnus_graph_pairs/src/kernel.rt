@@ -7,14 +7,26 @@ ghost use Rattle.arithmetic.specs.Arithmetic.{ieee, multiplied};
 ghost use Rattle.arithmetic.specs.Product.{plus_scaled};
 ghost use Rattle.graph_rows.specs.RowProduct.{row_product64};
 ghost use Rattle.graph_pairs.specs.Pairs.{firsts, seconds};
-ghost use Rattle.magnus_graph_helpers.specs.Factors.{scale_of, comm_scale_of};
 ghost use Rattle.magnus_graph_helpers.specs.Terms.{omega4_sum};
 ghost use Rattle.varcoef_magnus_graph_pairs.specs.WeightedPairs.{scaled_pairs, rooted_pairs, exchanged_pairs};
 
 use graph_pairs::kernel::row_sums;
 use graph_pairs::paired::{Pair, Paired, Pairs};
 use graph_rows::kernel::Pattern;
-use magnus_graph_helpers::factors::Factors;
+
+// The signal v times the first and times the second roots, as pairs. Of the roots alone: it takes no pattern, and no values.
+pub fn scale_by_roots(roots: Pairs<'_>, v: &[f64], scaled: &mut [f64])
+    requires v_len { length v.now ≡ roots.count }
+    requires scaled_len { length scaled.old ≡ 2 * roots.count }
+    ensures { scaled.new ≡ scaled_pairs roots.entry.count roots.entry.values.now v.now }
+{
+    // By index: of a slice written through `as_chunks_mut` or `chunks_exact_mut` the library promises the length, and nothing of its elements.
+    for (i, x) in v.iter().enumerate() {
+        let r = roots.at(i);
+        scaled[2 * i] = r.first * *x;
+        scaled[2 * i + 1] = r.second * *x;
+    }
+}
 
 // Two samples of one pattern and the square roots of their weights: pairs of the values, one for each entry, and of the roots, one for each node.
 #[derive(Clone, Copy)]
@@ -27,20 +39,6 @@ pub struct WeightedPairs<'a, 'v, 'r> {
 }
 
 impl<'a, 'v, 'r> WeightedPairs<'a, 'v, 'r> {
-    // The signal v times the first and times the second roots, as pairs.
-    pub fn scale(self, v: &[f64], scaled: &mut [f64])
-        requires v_len { length v.now ≡ self.pattern.n }
-        requires scaled_len { length scaled.old ≡ 2 * self.pattern.n }
-        ensures { scaled.new ≡ scaled_pairs self.entry.pattern.n self.entry.roots.values.now v.now }
-    {
-        // By index: of a slice written through `as_chunks_mut` or `chunks_exact_mut` the library promises the length, and nothing of its elements.
-        for (i, x) in v.iter().enumerate() {
-            let r = self.roots.at(i);
-            scaled[2 * i] = r.first * *x;
-            scaled[2 * i + 1] = r.second * *x;
-        }
-    }
-
     // Of the signals that `scaled` holds, scaled for each sample, the products become pairs of a, the roots of the first sample times its product
     // with the first of them, and b, those of the second times its product with the second one; and `next` pairs of r1 · b and r2 · a, of which the next
     // products are formed, the first sample's of r1 · b and the second one's of r2 · a.
@@ -78,7 +76,8 @@ impl<'a, 'v, 'r> WeightedPairs<'a, 'v, 'r> {
         self,
         products: &[f64],
         next: &[f64],
-        factors: Factors,
+        scale: f64,
+        comm_scale: f64,
         coefficient: f64,
         sum: &mut [f64],
         scaled: &mut [f64],
@@ -99,12 +98,10 @@ impl<'a, 'v, 'r> WeightedPairs<'a, 'v, 'r> {
             let b = seconds A n products.now in
             let c = multiplied A n (seconds A n r) (L2 (seconds A n next.now)) in
             let d = multiplied A n (firsts A n r) (L1 (firsts A n next.now)) in
-            let o = omega4_sum A n (scale_of factors) (comm_scale_of factors) a b c d in
+            let o = omega4_sum A n scale comm_scale a b c d in
             (sum.new ≡ plus_scaled A n sum.old coefficient o) × (scaled.new ≡ scaled_pairs n r o) }
     {
         let n = self.pattern.n;
-        let scale = factors.scale();
-        let comm_scale = factors.comm_scale();
         let products = Pairs {
             count: n,
             values: products,

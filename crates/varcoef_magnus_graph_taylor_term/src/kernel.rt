@@ -49,11 +49,13 @@ impl<'a, 'r> Omega for WeightedOmega4<'a, 'r> {
         let a = 2 * n;
         let b = 3 * n;
         let c = 4 * n;
+        let scale = self.factors.scale();
+        let comm_scale = self.factors.comm_scale();
         self.first.product_in(work, n, a);
         self.second.product_in(work, n, b);
         self.first.product_in(work, b, n);
         self.second.product_in(work, a, c);
-        omega_sum(work, n, a, b, c, n, self.factors);
+        omega_sum(work, n, a, b, c, n, scale, comm_scale);
         add_scaled(work, n, coefficient, n, 0);
     }
 }

@@ -44,9 +44,11 @@ impl<'a, 'r> Omega for ConstantWeightedOmega4<'a, 'r> {
     fn add_term(&self, coefficient: f64, work: &mut [f64]) {
         let n = self.both.sample.pattern.n;
         let a = 2 * n;
+        let scale = self.factors.scale();
+        let comm_scale = self.factors.comm_scale();
         self.both.product_in(work, n, a);
         self.both.product_in(work, a, n);
-        omega_sum(work, n, a, a, n, n, self.factors);
+        omega_sum(work, n, a, a, n, n, scale, comm_scale);
         add_scaled(work, n, coefficient, n, 0);
     }
 }

@@ -30,7 +30,7 @@ use magnus_graph_coefficients::kernel::reciprocal_factorial;
 use magnus_graph_helpers::factors::Factors;
 use square_roots::kernel::roots_in;
 use varcoef_magnus_graph::SQRT3_OVER_12_F64;
-use varcoef_magnus_graph_pairs::kernel::WeightedPairs;
+use varcoef_magnus_graph_pairs::kernel::{WeightedPairs, scale_by_roots};
 
 // One term of the Taylor sum, by two walks over the pattern that serve both samples: of v, whose pairs `scaled` are scaled by the roots, they
 // form Ωv in its place, scaled too, and add coefficient · Ωv to the sum. Not inlined, so that the loops of the walks have all registers. The lists
@@ -60,13 +60,16 @@ fn sampled_term(
         let W = P (L (firsts A m x)) (L (seconds A m x)) (firsts A n r) (seconds A n r) in
         ScaledTermAdded n r W coefficient sum.old scaled.old sum.new scaled.new }
 {
+    let scale = factors.scale();
+    let comm_scale = factors.comm_scale();
     samples.rooted_products(scaled, products, next);
-    samples.add_rooted_term(products, next, factors, coefficient, sum, scaled);
+    samples.add_rooted_term(products, next, scale, comm_scale, coefficient, sum, scaled);
 }
 
 // The Taylor sum of four terms: the vector at 0, the held signal, becomes its successor. The work slice is split into the vectors that the terms
 // write, and the roots and the values behind them. It is no sum of an `Omega`, whose terms find v at n: here a term takes v as pairs that are scaled
-// by the roots, at 4n, and leaves its image so.
+// by the roots, at 4n, and leaves its image so. Each term is a call of its own, so that the walks are compiled once and by themselves, with all
+// registers for their loops.
 fn sampled_taylor4(pattern: Pattern<'_>, factors: Factors, work: &mut [f64])
     requires { 11 * pattern.n + 2 * length pattern.col_idx.now ≤ length work.old }
     ensures { let A = ieee binary64 in
@@ -100,27 +103,25 @@ fn sampled_taylor4(pattern: Pattern<'_>, factors: Factors, work: &mut [f64])
             values: &roots[..2 * n],
         },
     };
-    samples.scale(sum, scaled);
-    for k in 0..4 {
-        sampled_term(
-            samples,
-            factors,
-            reciprocal_factorial(k + 1),
-            sum,
-            products,
-            scaled,
-            next,
-        );
-    }
+    let first = reciprocal_factorial(1);
+    let second = reciprocal_factorial(2);
+    let third = reciprocal_factorial(3);
+    let fourth = reciprocal_factorial(4);
+    scale_by_roots(samples.roots, sum, scaled);
+    sampled_term(samples, factors, first, sum, products, scaled, next);
+    sampled_term(samples, factors, second, sum, products, scaled, next);
+    sampled_term(samples, factors, third, sum, products, scaled, next);
+    sampled_term(samples, factors, fourth, sum, products, scaled, next);
 }
 
-// The pairs at 8n become the roots of those at 4n.
+// The pairs at 8n become the roots of those at 4n. Two calls take them, for the same reason.
 fn weight_roots(work: &mut [f64], n: usize)
     requires { 10 * n ≤ length work.old }
     ensures { let w = work.old in
         work.new ≡ put (8 * n) (map (square_root binary64) (part (4 * n) (2 * n) w)) w }
 {
-    roots_in(work, 2 * n, 4 * n, 8 * n);
+    roots_in(work, n, 4 * n, 8 * n);
+    roots_in(work, n, 5 * n, 9 * n);
 }
 
 // What a step takes in a segment of law 2: the pattern, and the start and end lists of the values and of the weights.

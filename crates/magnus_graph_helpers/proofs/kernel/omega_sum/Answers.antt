@@ -22,10 +22,8 @@ loop-i-preserved c =
     let d = read_here written turn nan in
     written_next written turn _ _ (omega arith)
     (λ k.
-    add binary64 (mul binary64 c.scale-scale.result (add binary64 (a k) (b k)))
-    (mul binary64 c.comm_scale-comm_scale.result (sub binary64 (product k) (d k))))
+    add binary64 (mul binary64 args.scale (add binary64 (a k) (b k)))
+    (mul binary64 args.comm_scale (sub binary64 (product k) (d k))))
 
 pub returns : goal.returns
-returns c =
-    rw (← c.scale-scale.ensures, ← c.comm_scale-comm_scale.ensures)
-    (written_all c.loop-i.invariant c.loop-i-test.false (omega4-sum-walk (ieee binary64) _ _ _ _ _ _ _))
+returns c = written_all c.loop-i.invariant c.loop-i-test.false (omega4-sum-walk (ieee binary64) _ _ _ _ _ _ _)

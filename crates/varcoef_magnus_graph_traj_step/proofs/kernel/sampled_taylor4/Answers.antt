@@ -1,19 +1,12 @@
 -- `sampled_taylor4` meets its contract: the work slice is split into the vectors that the terms write, and the roots and the values behind them. The
--- scaled pairs start as what the roots make of the held signal, and each turn adds the next term, whose coefficient is one division. Assumes nothing.
+-- scaled pairs start as what the roots make of the held signal, and each call adds the next term, whose coefficient is one division. Assumes nothing.
 use Rattle.std.proofs.Common.{◌*◌, List, Float, ◌++◌, length, take, ap, ◌∙◌, arith}
 use Rattle.std.specs.Float.{binary64}
 use Rattle.magnus.specs.Coefficients.{reciprocal_factorial}
 use Rattle.varcoef_magnus_graph_traj_step.proofs.Terms.{omega_of}
-use Rattle.varcoef_magnus_graph_traj_step.proofs.Turns.{turns-none, turns_next, turns-all}
+use Rattle.varcoef_magnus_graph_traj_step.proofs.Turns.{four-terms}
 use Rattle.varcoef_magnus_graph_traj_step.proofs.Split.{kept-lists, joined}
 use Rattle.varcoef_magnus_graph_traj_step.proofs.kernel.sampled_taylor4.Goals as goal
-
-pub loop-k-init : goal.loop-k-init
-loop-k-init c = turns-none _ _ _ _ _ c.scale.ensures
-
-pub loop-k-preserved : goal.loop-k-preserved
-loop-k-preserved c =
-    turns_next _ _ _ _ _ c.loop-k.invariant c.loop-k-test.true c.reciprocal_factorial.ensures c.sampled_term.ensures
 
 pub returns : goal.returns
 returns c =
@@ -31,7 +24,7 @@ returns c =
     let roots = c.split_at_mut-roots in
     let r = take (2 * n) roots.result.0.now in
     let x = take (2 * m) roots.result.1.now in
-    let last = c.loop-k in
+    let last = c.sampled_term-4.new in
     let lists = kept-lists n m w _ _ _ _ _ _ _ sum.ensures.back gap.ensures.back products.ensures.back scaled.ensures.back next.ensures.back
     roots.ensures.front roots.ensures.back in
     let whole = sum.ensures.value ∙ ap (λ (y : List Float). sum.result.0.now ++ y) (gap.ensures.value
@@ -43,4 +36,10 @@ returns c =
     (roots.result.0.now ++ roots.result.1.now) last.sum last.products last.scaled last.next lists
     (sum.ensures.front_len, gap.ensures.front_len, products.ensures.front_len, scaled.ensures.front_len, next.ensures.front_len)
     (omega arith, omega arith, omega arith, omega arith) whole
-    (turns-all n (reciprocal_factorial binary64) r (W r x) _ c.loop-k.invariant c.loop-k-test.false)
+    (four-terms n (reciprocal_factorial binary64) r (W r x) sum.result.0.now (
+      c.reciprocal_factorial-first.ensures,
+      c.reciprocal_factorial-second.ensures,
+      c.reciprocal_factorial-third.ensures,
+      c.reciprocal_factorial-fourth.ensures,
+    )
+    c.scale_by_roots.ensures c.sampled_term.ensures c.sampled_term-2.ensures c.sampled_term-3.ensures c.sampled_term-4.ensures)

@@ -10,4 +10,5 @@ returns c =
     let f = c.args.factors in
     let walked = c.rooted_products.ensures in
     sampled-term-added p.n p.row_ptr.now p.col_idx.now s.roots.values.now s.vals.values.now f.s f.sign f.tau c.args.coefficient
-    c.args.scaled.now _ _ walked.products walked.next c.add_rooted_term.ensures
+    c.args.scaled.now _ _ walked.products walked.next
+    (rw (← c.scale-scale.ensures, ← c.comm_scale-comm_scale.ensures) c.add_rooted_term.ensures)

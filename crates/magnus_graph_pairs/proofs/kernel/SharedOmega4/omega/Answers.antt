@@ -23,6 +23,5 @@ returns g c =
     let o = c.args.self.now in
     let p = o.pattern in
     let V = g.V.Paired in
-    rw (← c.scale-scale.ensures, ← c.comm_scale-comm_scale.ensures)
-    (forming-all p.n p.row_ptr.now p.col_idx.now (V.firsts_of o.vals) (V.seconds_of o.vals) c.args.products.now _ _ _ c.loop-i.invariant
-    c.requires.image_len (omega (arith, c.requires.image_len, c.loop-i.invariant.length-kept)))
+    forming-all p.n p.row_ptr.now p.col_idx.now (V.firsts_of o.vals) (V.seconds_of o.vals) c.args.products.now _ _ _ c.loop-i.invariant
+    c.requires.image_len (omega (arith, c.requires.image_len, c.loop-i.invariant.length-kept))

@@ -22,4 +22,4 @@ returns g c =
     (row (V.seconds_of o.vals) v) (row (V.firsts_of o.vals) v) c.args.coefficient _ v _ _
     (c.split_at_mut-sum.ensures.front_len, c.split_at_mut-v.ensures.front_len, c.split_at_mut-products.ensures.front_len) (omega arith) refl refl
     c.split_at_mut-sum.ensures.value c.split_at_mut-v.ensures.value c.split_at_mut-products.ensures.value
-    c.products.ensures c.omega.ensures c.add_scaled_to.ensures
+    c.products.ensures (rw (← c.scale-scale.ensures, ← c.comm_scale-comm_scale.ensures) c.omega.ensures) c.add_scaled_to.ensures

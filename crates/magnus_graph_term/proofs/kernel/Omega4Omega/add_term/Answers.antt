@@ -1,14 +1,13 @@
 -- A term of Ω of order 4 meets the contract of the trait: the four products are placed as the formula asks, d over v, which is no longer needed; then
 -- Ωv is formed of them over d, and the coefficient times Ωv is added to the sum. Assumes nothing.
-use Rattle.std.proofs.Common.{◌≡◌, ℕ, ◌*◌, List, Float, arith, ◌∙◌}
+use Rattle.std.proofs.Common.{◌≡◌, ◌*◌, arith, ◌∙◌}
 use Rattle.std.specs.Float.{binary64}
 use Rattle.rounding.specs.StepLength.{minus_half}
 use Rattle.arithmetic.specs.Arithmetic.{ieee}
 use Rattle.arithmetic.proofs.Tabulate.{length-tabulate}
-use Rattle.scratch.specs.Parts.{part, put}
 use Rattle.graph_rows.specs.Product.{product_of}
 use Rattle.graph_scratch.proofs.WorkSlice.{image-of}
-use Rattle.magnus_graph_helpers.specs.Terms.{omega4_sum}
+use Rattle.magnus_graph_helpers.specs.Factors.{scale_of, comm_scale_of}
 use Rattle.magnus_graph_helpers.proofs.Terms.{product-placed, room-left, term4-added}
 use Rattle.magnus_graph_term.proofs.kernel.Omega4Omega.add_term.Goals as goal
 
@@ -30,5 +29,8 @@ returns c =
     let d = placed (3 * n) n L1 _ _ (λ x. length-tabulate _ n) room2 (omega arith) c.product_in-3.ensures in
     let room3 = room-left A n d (5 * n) room2 in
     let e = placed (2 * n) (4 * n) L2 _ _ (λ x. length-tabulate _ _ ∙ same) room3 (omega arith) (image-of (2 * n) (4 * n) c.product_in-3.new.work L2 same c.product_in-4.ensures) in
+    let scale : c.scale-scale.result ≡ scale_of f = c.scale-scale.ensures in
+    let comm_scale : c.comm_scale-comm_scale.result ≡ comm_scale_of f = c.comm_scale-comm_scale.ensures in
     term4-added A n (5 * n) minus_half f.s f.sign f.tau args.coefficient L1 L2
-    args.work.now _ _ _ _ _ _ room (omega arith) a b d e c.omega_sum.ensures c.add_scaled.ensures
+    args.work.now _ _ _ _ _ _ room (omega arith) a b d e
+    (rw (← scale, ← comm_scale) c.omega_sum.ensures) c.add_scaled.ensures

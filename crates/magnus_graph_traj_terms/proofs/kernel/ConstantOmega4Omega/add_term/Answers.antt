@@ -22,5 +22,5 @@ returns c =
     let placed = product-placed A n (3 * n) in
     let a = placed n (2 * n) L c.args.work.now _ (λ x. length-tabulate _ n) room (omega arith) c.product_in.ensures in
     let d = placed (2 * n) n L _ _ (λ x. length-tabulate _ n) (room-left A n a (3 * n) room) (omega arith) c.product_in-2.ensures in
-    term4-constant-added A n (3 * n) minus_half f.s f.sign f.tau c.args.coefficient L c.args.work.now _ _ _ _ room (omega arith) a d c.omega_sum.ensures
-    c.add_scaled.ensures
+    term4-constant-added A n (3 * n) minus_half f.s f.sign f.tau c.args.coefficient L c.args.work.now _ _ _ _ room (omega arith) a d
+    (rw (← c.scale-scale.ensures, ← c.comm_scale-comm_scale.ensures) c.omega_sum.ensures) c.add_scaled.ensures

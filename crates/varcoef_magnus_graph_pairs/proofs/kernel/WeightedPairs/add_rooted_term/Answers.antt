@@ -29,8 +29,7 @@ loop-i-preserved c =
 pub returns : goal.returns
 returns c =
     let s = c.args.self in
-    let p = s.pattern in
-    rw (← c.scale-scale.ensures, ← c.comm_scale-comm_scale.ensures) (
+    let p = s.pattern in (
       second-sum p.n p.row_ptr.now p.col_idx.now s.vals.values.now s.roots.values.now _ _ _ _ _ c.loop-i.invariant c.requires.sum_len (omega arith),
       second-scaled p.n p.row_ptr.now p.col_idx.now s.vals.values.now s.roots.values.now _ _ _ _ _ c.loop-i.invariant c.requires.scaled_len (omega arith),
     )

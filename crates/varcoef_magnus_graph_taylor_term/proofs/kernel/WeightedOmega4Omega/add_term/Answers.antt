@@ -39,4 +39,5 @@ returns c =
     let room3 = room-left A n d (6 * n) room2 in
     let e = weighted-placed A n L2 r2 (2 * n) (4 * n) _ _ room3 (omega arith) (omega arith) (product-of L2 r2 (2 * n) (4 * n) _ o.same_nodes c.product_in-4.ensures) in
     term4-added A n (6 * n) minus_half f.s f.sign f.tau args.coefficient (weighted A n r1 L1) (weighted A n r2 L2)
-    args.work.now _ _ _ _ _ _ (omega (arith, room)) (omega arith) a b d e c.omega_sum.ensures c.add_scaled.ensures
+    args.work.now _ _ _ _ _ _ (omega (arith, room)) (omega arith) a b d e
+    (rw (← c.scale-scale.ensures, ← c.comm_scale-comm_scale.ensures) c.omega_sum.ensures) c.add_scaled.ensures

@@ -23,4 +23,5 @@ returns c =
     let a = weighted-placed A n L r n (2 * n) args.work.now _ room (omega arith) (omega arith) c.product_in.ensures in
     let d = weighted-placed A n L r (2 * n) n _ _ (room-left A n a (6 * n) room) (omega arith) (omega arith) c.product_in-2.ensures in
     term4-constant-added A n (6 * n) minus_half f.s f.sign f.tau args.coefficient (weighted A n r L) args.work.now _ _ _ _
-    (omega (arith, room)) (omega arith) a d c.omega_sum.ensures c.add_scaled.ensures
+    (omega (arith, room)) (omega arith) a d
+    (rw (← c.scale-scale.ensures, ← c.comm_scale-comm_scale.ensures) c.omega_sum.ensures) c.add_scaled.ensures
