@@ -4,6 +4,7 @@ ghost use Rattle.job_checks.specs.Bits.{bit_of};
 ghost use Rattle.job_format.specs.JobFormat.{field_sizes, word16, real, job_map, job_nodes, job_entries, job_has, job_field};
 
 use float_bits::from_bits;
+use job_checks::kernel::stands_in;
 use job_checks::{Field, Map};
 use little_endian::kernel::{word16, word64};
 use std::marker::Model;
@@ -12,7 +13,7 @@ mod lists;
 mod numbers;
 
 // The bytes of a job, and with what they start: the map, n and m. A contract sees it as the list of its bytes.
-#[derive(Drop)]
+#[derive(Clone, Drop)]
 pub struct Job<'a> {
     bytes: &'a [u8],
     map: Map,
@@ -61,12 +62,20 @@ impl<'a> Job<'a> {
         self.map
     }
 
-    // Whether it has a field.
+    // Whether a bit of its map stands. By its number: a map may have bits that are no field's.
     #[tactic(auto, unfolding(crate::specs::JobFormat::job_has))]
+    pub fn has_bit(&self, bit: u64) -> bool
+        requires { bit < 64 }
+        ensures { result ≡ job_has self.now bit }
+    {
+        stands_in(self.map.bits, bit)
+    }
+
+    // Whether it has a field.
     pub fn has(&self, field: Field) -> bool
         ensures { result ≡ job_has self.now (bit_of field) }
     {
-        self.map.has(field)
+        self.has_bit(field.bit())
     }
 
     // n.
@@ -123,7 +132,7 @@ impl<'a> Job<'a> {
 
     // Where the job ends.
     pub fn end(&self) -> usize
-        ensures { result ≡ job_field self.now 9 }
+        ensures { (result ≡ job_field self.now 9) × (result < 2 ^ 32) }
     {
         self.start_of_bit(9)
     }
@@ -140,7 +149,7 @@ fn number_at(bytes: &[u8], at: usize) -> u64
 
 // The real at a place.
 #[tactic(auto, unfolding(crate::specs::JobFormat::real))]
-fn real_at(bytes: &[u8], at: usize) -> f64
+pub fn real_at(bytes: &[u8], at: usize) -> f64
     requires { at + 8 < 2 ^ 64 }
     ensures { result ≡ real bytes.now at }
 {

@@ -11,7 +11,7 @@ use job_checks::Field;
 use job_format::kernel::Job;
 use job_format::{MOST_ENTRIES, MOST_NODES, check_job};
 use job_text::refused_text;
-use job_text_numbers::kernel::Text;
+use job_text_numbers::kernel::{TEXT, Text};
 use magnus_graph::SpectralBound;
 use steps::JobStep;
 
@@ -19,7 +19,7 @@ mod steps;
 
 // The text of a job that is not malformed, and so has at most 64 nodes and 512 entries: its fields are read, and lent to its step. The program has
 // no heap, so each list is the first part of an array for the most that a job has.
-fn run_step(job: Job) -> Text
+fn run_step(job: Job) -> Text<TEXT>
     requires { Small job }
     ensures { AnswerText (job_step_answer (job_of job.entry)) (job_step_output (job_of job.entry)) result }
 {
@@ -59,7 +59,7 @@ fn run_step(job: Job) -> Text
 }
 
 // The text of a job.
-pub fn run_job(bytes: &[u8]) -> Text
+pub fn run_job(bytes: &[u8]) -> Text<TEXT>
     ensures { JobText bytes.now result }
 {
     let job = Job::new(bytes);

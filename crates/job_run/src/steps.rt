@@ -16,7 +16,7 @@ use job_answer::kernel::answer_text;
 use job_checks::Field;
 use job_format::kernel::Job;
 use job_format::{MOST_ENTRIES, MOST_NODES};
-use job_text_numbers::kernel::Text;
+use job_text_numbers::kernel::{TEXT, Text};
 use magnus_graph::{SpectralBound, apply_exp_omega4_adj_kernel, apply_exp_omega4_kernel};
 use magnus6_graph::apply_exp_omega6_kernel;
 use varcoef_magnus_graph::{
@@ -43,7 +43,7 @@ pub struct JobStep<'a> {
 
 impl<'a> JobStep<'a> {
     // The text of the step that the map selects.
-    pub fn text(&self) -> Text
+    pub fn text(&self) -> Text<TEXT>
         ensures { let job = job_of self.now.job in AnswerText (job_step_answer job) (job_step_output job) result }
     {
         let mut output = [0.0; MOST_NODES];

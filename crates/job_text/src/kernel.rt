@@ -8,7 +8,7 @@ use job_text_numbers::kernel::{TEXT, Text};
 pub const NEWLINE: u8 = b'\n';
 
 // The text of an accepted job. A job has at most 64 values.
-pub fn done_text(values: &[f64]) -> Text
+pub fn done_text(values: &[f64]) -> Text<TEXT>
     requires { length values.now ≤ 64 }
     ensures { DoneText values.now result }
 {
@@ -21,7 +21,7 @@ pub fn done_text(values: &[f64]) -> Text
 }
 
 // A line for each value.
-fn put_lines(text: &mut Text, values: &[f64])
+fn put_lines(text: &mut Text<TEXT>, values: &[f64])
     requires { length text.old + 17 * length values.now ≤ TEXT }
     ensures { Added (Lines values.now) text.old text.new }
 {

@@ -4,7 +4,7 @@
 ghost use Rattle.job_text.specs.Text.{RefusedText};
 
 use error::Refusal;
-use job_text_numbers::kernel::Text;
+use job_text_numbers::kernel::{TEXT, Text};
 use job_text_row::kernel::put_row;
 use kernel::NEWLINE;
 use refusal_rows::row_of;
@@ -12,7 +12,7 @@ use refusal_rows::row_of;
 pub mod kernel;
 
 // The text of a refusal.
-pub fn refused_text(refusal: Refusal) -> Text
+pub fn refused_text(refusal: Refusal) -> Text<TEXT>
     ensures { RefusedText refusal result }
 {
     let mut text = Text::new();

@@ -5,14 +5,14 @@ ghost use Rattle.refusal_rows.specs.Row.{row_number, row_values};
 ghost use Rattle.job_text_numbers.specs.Added.{Added};
 ghost use Rattle.job_text_row.specs.Spaced.{Spaced};
 
-use job_text_numbers::kernel::{TEXT, Text};
+use job_text_numbers::kernel::Text;
 use refusal_rows::Row;
 
 const SPACE: u8 = b' ';
 
 // The number and the values, each after a space.
-pub fn put_row(text: &mut Text, row: Row)
-    requires { length text.old + 55 ≤ TEXT }
+pub fn put_row<const CAP: usize>(text: &mut Text<CAP>, row: Row)
+    requires { length text.old + 55 ≤ CAP }
     ensures added { Added (Spaced (count (row_number row) ∷ row_values row)) text.old text.new }
     ensures upper_bound { length text.new ≤ length text.old + 55 }
 {
@@ -35,8 +35,8 @@ pub fn put_row(text: &mut Text, row: Row)
 
 // A space and a count. A count and a real have a function each: one for an enum of both would need that enum, and definitions of what a value
 // carries and of the room that it takes, which is longer.
-fn put_count(text: &mut Text, k: usize)
-    requires { length text.old + 21 ≤ TEXT }
+fn put_count<const CAP: usize>(text: &mut Text<CAP>, k: usize)
+    requires { length text.old + 21 ≤ CAP }
     ensures added { Added (Spaced (count k ∷ [])) text.old text.new }
     ensures upper_bound { length text.new ≤ length text.old + 21 }
 {
@@ -45,8 +45,8 @@ fn put_count(text: &mut Text, k: usize)
 }
 
 // A space and a real.
-fn put_value(text: &mut Text, x: f64)
-    requires { length text.old + 17 ≤ TEXT }
+fn put_value<const CAP: usize>(text: &mut Text<CAP>, x: f64)
+    requires { length text.old + 17 ≤ CAP }
     ensures added { Added (Spaced (real x ∷ [])) text.old text.new }
     ensures upper_bound { length text.new ≤ length text.old + 17 }
 {

@@ -6,12 +6,12 @@ use Rattle.job_text_numbers.proofs.kernel.Text.put_real.Goals as goal
 
 pub returns-clause-added : goal.returns-clause-added
 unfolding hexadecimal16
-returns-clause-added c = record {
+returns-clause-added g c = record {
   text = digits 16 16 c.pattern.result;
   holds = record { bits = c.pattern.result; fits = c.pattern.type_inv; value = c.pattern.ensures; is = refl };
   is = c.put_digits.ensures;
 }
 
 pub returns-clause-length_value : goal.returns-clause-length_value
-returns-clause-length_value c =
+returns-clause-length_value g c =
     omega (arith, simp (length-append, length_digits) at (ap length c.put_digits.ensures))
