@@ -1,5 +1,5 @@
 -- What a law's list is, case by case, and how long it is. Assumes nothing.
-use mathlib.Core.Path.{◌≡◌, refl, sym, ap, ◌∙◌}
+use mathlib.Core.Path.{◌≡◌, refl, sym, ap, ap₂, ◌∙◌}
 use mathlib.Core.Bool.{Bool, true, false, cond}
 use mathlib.Core.List.{List}
 use Prim.Native.Nat.{ℕ, zero, suc, ◌+◌, ◌*◌, ◌≤◌, ◌<◌}
@@ -10,7 +10,7 @@ use lib.ListN.{length, length-take, length-drop}
 use lib.Ieee.{Float}
 use borrow.Author.Tests.{eq-eqb, ne_eqb}
 use Rattle.scratch.specs.Parts.{part}
-use Rattle.scratch.proofs.Parts.{part-whole}
+use Rattle.scratch.proofs.Parts.{length_part, part-whole}
 use Rattle.graph_traj_laws.specs.Laws.{by_law, values_at, law_list}
 
 -- the list of the one segment is the whole pool
@@ -26,6 +26,16 @@ module _ (law : ℕ) (start end : List Float) (same : length end ≡ length star
   pub law-end : (law ≡ 0 → ⊥) → end ≡ law_list law 0 (length start) start end
   unfolding law_list
   law-end n = let first : eqb law 0 ≡ false = ne_eqb law 0 n in rw first (sym (whole-pool _ end same))
+
+-- of segment k's own lists a law names the list that it names in the pools
+pub law-list-of-segment : (law k m : ℕ) (starts ends : List Float)
+    → k * m + m ≤ length starts
+    → k * m + m ≤ length ends
+    → law_list law 0 m (part (k * m) m starts) (part (k * m) m ends) ≡ law_list law k m starts ends
+unfolding law_list
+law-list-of-segment law k m starts ends p q =
+    ap₂ (cond (eqb law 0)) (whole-pool m (part (k * m) m starts) (length_part (k * m) m starts p))
+    (whole-pool m (part (k * m) m ends) (length_part (k * m) m ends q))
 
 -- the values of a segment of law 0 or 1 are its law's list, at any time
 pub law-values : (law k m : ℕ) (f : Float) (starts ends : List Float)

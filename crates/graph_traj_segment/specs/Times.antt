@@ -13,7 +13,7 @@ infixl 70 ◌*◌ ◌÷◌
 abbrev pub ◌÷◌ : Float → Float → Float
 ◌÷◌ = Ieee.div binary64
 
--- a count as a real; the counts of a run are small enough that none is rounded
+-- a count as a real; the counts of a run are small enough that none is rounded (`count-exact`, in this crate's proofs/CountsExact.antt)
 abbrev pub real : ℕ → Float
 real count = of_int binary64 (pos count)
 

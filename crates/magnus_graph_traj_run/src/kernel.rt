@@ -36,12 +36,7 @@ pub fn step_at(
         row_ptr: parts.row_ptr,
         col_idx: parts.col_idx,
     };
-    let m = parts.col_idx.len();
-    let from = k * m;
-    let lists = EndLists {
-        start: &parts.starts[from..from + m],
-        end: &parts.ends[from..from + m],
-    };
+    let lists = EndLists::of_segment(parts.starts, parts.ends, k, parts.col_idx.len());
     let fractions = Pair {
         first: segment.fraction(segment.first_sample(t_start)),
         second: segment.fraction(segment.second_sample(t_start)),
