@@ -12,13 +12,35 @@ use std::marker::Model;
 mod lists;
 mod numbers;
 
-// The bytes of a job, and with what they start: the map, n and m. A contract sees it as the list of its bytes.
+// With what a job starts: the map, n and m.
+#[derive(Clone, Copy)]
+pub struct Head {
+    pub map: Map,
+    pub nodes: usize,
+    pub entries: usize,
+}
+
+// The head of a job with these bytes.
+#[tactic(auto, unfolding(crate::specs::JobFormat::job_map, crate::specs::JobFormat::job_nodes, crate::specs::JobFormat::job_entries))]
+pub fn head_of(bytes: &[u8]) -> Head
+    ensures map_value { (result.map.bits ≡ job_map bytes.now) × (result.map.bits < 65536) }
+    ensures nodes_value { (result.nodes ≡ job_nodes bytes.now) × (result.nodes < 65536) }
+    ensures entries_value { (result.entries ≡ job_entries bytes.now) × (result.entries < 65536) }
+{
+    Head {
+        map: Map {
+            bits: number_at(bytes, 0),
+        },
+        nodes: number_at(bytes, 2) as usize,
+        entries: number_at(bytes, 4) as usize,
+    }
+}
+
+// The bytes of a job, and their head. A contract sees it as the list of its bytes.
 #[derive(Clone, Drop)]
 pub struct Job<'a> {
     bytes: &'a [u8],
-    map: Map,
-    nodes: usize,
-    entries: usize,
+    head: Head,
 }
 
 impl<'a> Model for Job<'a> {
@@ -29,22 +51,17 @@ impl<'a> Model for Job<'a> {
 
     ghost view = { λ j. j.bytes.now };
 
-    ghost invariant = { λ j. Head j.bytes.now j.map.bits j.nodes j.entries };
+    ghost invariant = { λ j. Head j.bytes.now j.head.map.bits j.head.nodes j.head.entries };
 }
 
 impl<'a> Job<'a> {
     // The job with these bytes.
-    #[tactic(auto, unfolding(crate::specs::JobFormat::job_map, crate::specs::JobFormat::job_nodes, crate::specs::JobFormat::job_entries))]
     pub fn new(bytes: &'a [u8]) -> Self
         ensures { result ≡ bytes.now }
     {
         Job {
             bytes,
-            map: Map {
-                bits: number_at(bytes, 0),
-            },
-            nodes: number_at(bytes, 2) as usize,
-            entries: number_at(bytes, 4) as usize,
+            head: head_of(bytes),
         }
     }
 
@@ -59,7 +76,7 @@ impl<'a> Job<'a> {
     pub fn map(&self) -> Map
         ensures { (result.bits ≡ job_map self.now) × (result.bits < 65536) }
     {
-        self.map
+        self.head.map
     }
 
     // Whether a bit of its map stands. By its number: a map may have bits that are no field's.
@@ -68,7 +85,7 @@ impl<'a> Job<'a> {
         requires { bit < 64 }
         ensures { result ≡ job_has self.now bit }
     {
-        stands_in(self.map.bits, bit)
+        stands_in(self.head.map.bits, bit)
     }
 
     // Whether it has a field.
@@ -82,14 +99,14 @@ impl<'a> Job<'a> {
     pub fn nodes(&self) -> usize
         ensures { (result ≡ job_nodes self.now) × (result < 65536) }
     {
-        self.nodes
+        self.head.nodes
     }
 
     // m.
     pub fn entries(&self) -> usize
         ensures { (result ≡ job_entries self.now) × (result < 65536) }
     {
-        self.entries
+        self.head.entries
     }
 
     // How many bytes a field has.

@@ -1,5 +1,5 @@
 // The driver of the programs that replay a stored list, for callers that lend what says whether a case is right.
-use crate::{MOST, Tally, cut_off, next_case};
+use crate::{MOST, Tally, next_case};
 use replay_fields::{Fields, Malformed};
 
 // Replays the list on standard input, whose cases are of the kinds K, one after the other. A case is right where its call, which reads its
@@ -14,18 +14,20 @@ pub fn replay<
     let mut room = io::large_buffer();
     let mut tally = Tally::default();
     for _ in 0..=MOST {
-        let Ok(next) = next_case(&mut room) else {
-            cut_off(rt);
+        if tally.ended {
             break;
-        };
-        let Some((kind, mut fields)) = next else {
-            break;
-        };
-        let right = match K::try_from(kind) {
-            Ok(kind) => is_right(kind, &mut fields).unwrap_or(false) && fields.is_empty(),
-            Err(Malformed) => false,
-        };
-        tally.count(rt, right);
+        }
+        match next_case(&mut room) {
+            Ok(Some((kind, mut fields))) => {
+                let right = match K::try_from(kind) {
+                    Ok(kind) => is_right(kind, &mut fields).unwrap_or(false) && fields.is_empty(),
+                    Err(Malformed) => false,
+                };
+                tally.count(rt, right);
+            }
+            Ok(None) => tally.stop(rt, true),
+            Err(Malformed) => tally.stop(rt, false),
+        }
     }
     tally
 }

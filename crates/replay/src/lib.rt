@@ -34,11 +34,12 @@ fn next_case<'a>(room: &'a mut [u8; LONGEST]) -> Result<Option<(u16, Fields<'a>)
     Ok(Some((kind, Fields::new(fields))))
 }
 
-// How many cases were replayed, and how many of them were wrong.
+// How many cases were replayed, how many of them were wrong, and whether the list has ended or is no list any more.
 #[derive(Clone, Copy, Default)]
 pub struct Tally {
     pub cases: u64,
     pub wrong: u64,
+    pub ended: bool,
 }
 
 impl Tally {
@@ -46,14 +47,23 @@ impl Tally {
     // print their last one: what was found is the same.
     pub fn count(&mut self, rt: &impl Print, right: bool) {
         if MOST <= self.cases {
-            cut_off(rt);
+            self.stop(rt, false);
             return;
         }
         self.cases = self.cases.saturating_add(1);
+        self.ended = false;
         if !right {
             self.wrong = self.wrong.saturating_add(1);
             let case = self.cases;
             let _ = println!(rt; "wrong: case {case}");
+        }
+    }
+
+    // The list has ended, or what follows is no list, or too much of one, which is said.
+    pub fn stop(&mut self, rt: &impl Print, whole: bool) {
+        self.ended = true;
+        if !whole {
+            let _ = println!(rt; "the list is cut off");
         }
     }
 }
@@ -64,9 +74,4 @@ impl fmt::Display for Tally {
         let wrong = self.wrong;
         write!(f, "{cases} cases, {wrong} wrong")
     }
-}
-
-// Says that what follows is no list, or too much of one.
-fn cut_off(rt: &impl Print) {
-    let _ = println!(rt; "the list is cut off");
 }

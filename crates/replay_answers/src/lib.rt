@@ -33,36 +33,37 @@ pub fn is_checked<E>(answered: Result<(), Refusal>, expected: &Result<E, Refused
 }
 
 // Whether a call that writes to a lent slice answered and wrote what stands next in its case: its answer, and what is in the slice then.
-pub fn is_written(
-    answered: Result<(), Refusal>,
-    written: &[f64],
-    fields: &mut Fields<'_>,
-) -> Result<bool, Malformed> {
-    let expected: Result<(), Refused> = fields.read()?;
-    Ok(is_checked(answered, &expected) && fields.are_reals(written)?)
+pub fn is_written(answered: Result<(), Refusal>, written: &[f64], fields: &mut Fields<'_>) -> bool {
+    let Ok(expected) = fields.read::<Result<(), Refused>>() else {
+        return false;
+    };
+    is_checked(answered, &expected) && fields.are_reals(written)
 }
 
-// The work slice of a step or a run, whose elements are all the same before the call, and the bits of each.
-#[derive(Drop)]
-pub struct Work<'r> {
-    pub elements: &'r mut [f64],
-    before: u64,
+// The work slice of a step or a run before the call: its length, and the bits of each element.
+#[derive(Clone, Copy)]
+pub struct Work {
+    pub length: usize,
+    pub bits: u64,
 }
 
-impl<'r> Work<'r> {
-    // Reads its length and the bits of an element, and makes it at the start of the room.
-    pub fn read(fields: &mut Fields<'_>, room: &'r mut [f64]) -> Result<Work<'r>, Malformed> {
+impl Work {
+    pub fn read(fields: &mut Fields<'_>) -> Result<Work, Malformed> {
         let length: usize = fields.read()?;
-        let before: u64 = fields.read()?;
-        let elements = room.get_mut(..length).ok_or(Malformed)?;
-        elements.fill(from_bits(before));
-        Ok(Work { elements, before })
+        let bits: u64 = fields.read()?;
+        Ok(Work { length, bits })
     }
 
-    // Whether so many elements at the start are +0, and each other one is as it was before.
-    pub fn is_cleared(&self, cleared: usize) -> bool {
-        let before = self.before;
-        let (start, rest) = self.elements.split_at(cleared.min(self.elements.len()));
-        start.iter().all(|x| has_bits(*x, 0)) && rest.iter().all(|x| has_bits(*x, before))
+    // Its elements, made at the start of the room.
+    pub fn elements<'r>(self, room: &'r mut [f64]) -> Result<&'r mut [f64], Malformed> {
+        let elements = room.get_mut(..self.length).ok_or(Malformed)?;
+        elements.fill(from_bits(self.bits));
+        Ok(elements)
+    }
+
+    // Whether so many of the elements, at the start, are +0 after the call, and each other one is as it was before.
+    pub fn is_cleared(self, elements: &[f64], cleared: usize) -> bool {
+        let (start, rest) = elements.split_at(cleared.min(elements.len()));
+        start.iter().all(|x| has_bits(*x, 0)) && rest.iter().all(|x| has_bits(*x, self.bits))
     }
 }

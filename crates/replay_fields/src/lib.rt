@@ -73,18 +73,23 @@ impl<'a> Fields<'a> {
         Ok(slice)
     }
 
-    // Whether a slice has these reals, in every bit. Any NaN matches any NaN.
-    pub fn are_reals(&mut self, values: &[f64]) -> Result<bool, Malformed> {
-        let count: u32 = self.read()?;
+    // Whether a slice of these reals stands there, in every bit. Any NaN matches any NaN.
+    pub fn are_reals(&mut self, values: &[f64]) -> bool {
+        let Ok(count) = self.read::<u32>() else {
+            return false;
+        };
         if count as usize != values.len() {
-            return Ok(false);
+            return false;
         }
         for x in values {
-            if !has_bits(*x, self.read()?) {
-                return Ok(false);
+            let Ok(bits) = self.read() else {
+                return false;
+            };
+            if !has_bits(*x, bits) {
+                return false;
             }
         }
-        Ok(true)
+        true
     }
 
     // A slice of bytes.

@@ -30,5 +30,5 @@ pub fn product_right(
     let src = fields.slice(src)?;
     let dst = fields.slice(dst)?;
     let answered = apply_into_slice(network, src, dst);
-    is_written(answered, dst, fields)
+    Ok(is_written(answered, dst, fields))
 }

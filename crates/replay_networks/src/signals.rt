@@ -12,7 +12,7 @@ pub fn copy_right(
     let signal = fields.slice(signal)?;
     let src = fields.slice(src)?;
     let answered = copy_from(signal, src);
-    is_written(answered, signal, fields)
+    Ok(is_written(answered, signal, fields))
 }
 
 // Whether `axpy_into_slice` answers and writes what the case says.
@@ -25,5 +25,5 @@ pub fn sum_right(
     let alpha: f64 = fields.read()?;
     let src = fields.slice(src)?;
     let answered = axpy_into_slice(signal, alpha, src);
-    is_written(answered, signal, fields)
+    Ok(is_written(answered, signal, fields))
 }

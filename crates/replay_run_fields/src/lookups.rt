@@ -6,7 +6,12 @@ use replay_fields::{Fields, Malformed};
 use replay_trajectories::Form;
 
 // Whether `segment_index` answers what the case says. After an acceptance stands the index.
-pub fn lookup_right(
+pub fn lookup_right(form: Form, fields: &mut Fields<'_>, breakpoints: &mut [f64]) -> bool {
+    read_and_look_up(form, fields, breakpoints).unwrap_or(false)
+}
+
+// The same for a case that may be malformed.
+fn read_and_look_up(
     form: Form,
     fields: &mut Fields<'_>,
     breakpoints: &mut [f64],

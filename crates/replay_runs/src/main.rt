@@ -55,7 +55,7 @@ fn is_right(
 ) -> Result<bool, Malformed> {
     let Kind { call, form } = kind;
     match call {
-        Call::Lookup => lookup_right(form, fields, &mut room.trajectory.breakpoints),
+        Call::Lookup => Ok(lookup_right(form, fields, &mut room.trajectory.breakpoints)),
         Call::Run(run) => {
             let run = read_run(run, form, fields, room)?;
             let dst = form.output(fields, run.trajectory.n, dst)?;

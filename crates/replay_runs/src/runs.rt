@@ -49,9 +49,10 @@ pub fn run_right(
     fields: &mut Fields<'_>,
     work: &mut [f64],
 ) -> Result<bool, Malformed> {
-    let work = Work::read(fields, work)?;
+    let before = Work::read(fields)?;
+    let work = before.elements(work)?;
     let expected: Result<(), Refused> = fields.read()?;
-    let answered = evolve(run, dst, work.elements);
+    let answered = evolve(run, dst, work);
     let cleared = cleared_by(run, &expected);
-    Ok(is_checked(answered, &expected) && fields.are_reals(dst)? && work.is_cleared(cleared))
+    Ok(is_checked(answered, &expected) && fields.are_reals(dst) && before.is_cleared(work, cleared))
 }

@@ -22,14 +22,15 @@ fn is_right(
 ) -> Result<bool, Malformed> {
     let step = read_step(kind, fields, room)?;
     let dst = fields.slice(dst)?;
-    let work = Work::read(fields, work)?;
+    let before = Work::read(fields)?;
+    let work = before.elements(work)?;
     let expected: Result<(), Refused> = fields.read()?;
     let cleared = match expected {
         Ok(()) => dst.len().saturating_mul(step.call.cleared_by_node()),
         Err(_) => 0,
     };
-    let answered = apply(step, dst, work.elements);
-    Ok(is_checked(answered, &expected) && fields.are_reals(dst)? && work.is_cleared(cleared))
+    let answered = apply(step, dst, work);
+    Ok(is_checked(answered, &expected) && fields.are_reals(dst) && before.is_cleared(work, cleared))
 }
 
 fn main(rt: HostRuntime) {

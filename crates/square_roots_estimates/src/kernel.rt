@@ -1,7 +1,8 @@
 // Estimates of the square roots of a vector, promising nothing, and its square roots from any guesses at them.
-ghost use Rattle.std.specs.Prelude.{◌≡◌, map, length};
+ghost use Rattle.std.specs.Prelude.{◌≡◌, map, ◌+◌, ◌≤◌, length};
 ghost use Rattle.std.specs.Float.{binary64};
 ghost use Rattle.ieee_square_root.specs.SquareRoot.{square_root};
+ghost use Rattle.square_roots_estimates.specs.Overwritten.{Overwritten};
 
 use square_root::kernel::{inverse_root, root_near};
 use square_root_bits::kernel::bits_or_zero;
@@ -30,6 +31,17 @@ pub fn estimate_into_slice(src: &[f64], dst: &mut [f64])
 {
     for (y, x) in dst.iter_mut().zip(src) {
         *y = estimate(*x);
+    }
+}
+
+// The vector at `target` becomes estimates of the square roots of what stands at `source`, and nothing else is written. Nothing is promised of them.
+pub fn estimate_within(work: &mut [f64], count: usize, source: usize, target: usize)
+    requires { (source + count ≤ length work.old) × (target + count ≤ length work.old) }
+    ensures { Overwritten count target work.old work.new }
+{
+    // By index: both vectors lie in one slice, and may overlap.
+    for i in 0..count {
+        work[target + i] = estimate(work[source + i]);
     }
 }
 

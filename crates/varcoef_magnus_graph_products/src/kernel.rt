@@ -4,8 +4,11 @@ ghost use Rattle.std.specs.Prelude.{◌≡◌, ◌+◌, ◌*◌, ◌≤◌, leng
 ghost use Rattle.std.specs.Float.{binary64};
 ghost use Rattle.arithmetic.specs.Arithmetic.{ieee, multiplied};
 ghost use Rattle.scratch.specs.Parts.{part, put, Apart};
+ghost use Rattle.graph_rows.specs.Product.{product_of};
 
 use graph_rows::kernel::Sample;
+use graph_scratch::kernel::product_in;
+use scratch::kernel::combine_within;
 
 // A sample and the square roots of its weights, one for each node.
 #[derive(Clone, Copy)]
@@ -15,8 +18,28 @@ pub struct WeightedSample<'a, 'r> {
     pub ghost roots_len: { length roots.now ≡ sample.pattern.n },
 }
 
+// The vector at `target` becomes the product with the one at `source`, times the roots at `root`, which may lie over the source.
+pub fn rooted_product_in(
+    sample: Sample<'_>,
+    work: &mut [f64],
+    root: usize,
+    source: usize,
+    target: usize,
+)
+    requires root_in_bounds { root + sample.pattern.n ≤ length work.old }
+    requires source_in_bounds { source + sample.pattern.n ≤ length work.old }
+    requires target_in_bounds { target + sample.pattern.n ≤ length work.old }
+    requires apart { Apart sample.pattern.n root target × Apart sample.pattern.n source target }
+    ensures { let w = work.old in
+        let n = sample.entry.pattern.n in
+        let L = product_of sample.entry in
+        work.new ≡ put target (multiplied (ieee binary64) n (part root n w) (L (part source n w))) w }
+{
+    product_in(sample, work, source, target);
+    combine_within(work, sample.pattern.n, root, target, target, |r, y| r * y);
+}
+
 impl<'a, 'r> WeightedSample<'a, 'r> {
-    ghost use Rattle.graph_rows.specs.Product.{product_of};
     ghost use Rattle.varcoef_magnus_graph_products.specs.WeightedProduct.{with_product};
 
     // The vector at `target` becomes the one at `source`, times the roots.

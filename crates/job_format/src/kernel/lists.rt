@@ -90,17 +90,34 @@ impl<'a> Job<'a> {
         self.read_values_of_bit(sample.bit() as usize, target);
     }
 
-    // The weights, after the root bound: those for the first sample, then those for the second.
-    #[tactic(auto, unfolding(crate::specs::JobFormat::job_weights1, crate::specs::JobFormat::job_weights2, crate::specs::JobFormat::reals))]
+    // The weights for the first sample, after the root bound.
+    #[tactic(auto, unfolding(crate::specs::JobFormat::job_weights1, crate::specs::JobFormat::reals))]
+    pub fn read_weights1(&self, target: &mut [f64])
+        requires { length target.old ≡ job_nodes self.now }
+        ensures { target.new ≡ job_weights1 self.now }
+    {
+        read_list(self.bytes, self.start(Field::Weights) + 8, target);
+    }
+
+    // The weights for the second sample, after those for the first.
+    #[tactic(auto, unfolding(crate::specs::JobFormat::job_weights2, crate::specs::JobFormat::reals))]
+    pub fn read_weights2(&self, target: &mut [f64])
+        requires { length target.old ≡ job_nodes self.now }
+        ensures { target.new ≡ job_weights2 self.now }
+    {
+        let at = self.start(Field::Weights) + 8 + 8 * self.nodes();
+        read_list(self.bytes, at, target);
+    }
+
+    // The weights of both samples.
     pub fn read_weights(&self, first: &mut [f64], second: &mut [f64])
         requires first_value { length first.old ≡ job_nodes self.now }
         requires second_value { length second.old ≡ job_nodes self.now }
         ensures first_value { first.new ≡ job_weights1 self.now }
         ensures second_value { second.new ≡ job_weights2 self.now }
     {
-        let at = self.start(Field::Weights) + 8;
-        read_list(self.bytes, at, first);
-        read_list(self.bytes, at + 8 * self.nodes(), second);
+        self.read_weights1(first);
+        self.read_weights2(second);
     }
 
     // The signal.
