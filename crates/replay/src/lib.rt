@@ -43,8 +43,8 @@ pub struct Tally {
 }
 
 impl Tally {
-    // One case more, right or wrong. A wrong one is named on a line of its own. A line that cannot be written is left out, here and where the programs
-    // print their last one: what was found is the same.
+    // One case more, right or wrong, with which the list has not ended; a list has at most a million. A wrong one is named on a line of its own. A line that
+    // cannot be written is left out, here and where the programs print their last one: what was found is the same.
     pub fn count(&mut self, rt: &impl Print, right: bool) {
         if MOST <= self.cases || MOST <= self.wrong {
             self.stop(rt, false);

@@ -48,6 +48,7 @@ pub struct Work {
 }
 
 impl Work {
+    // Reads the length, and then the bits.
     pub fn read(fields: &mut Fields<'_>) -> Result<Work, Malformed> {
         let length: usize = fields.read()?;
         let bits: u64 = fields.read()?;
