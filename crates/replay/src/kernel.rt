@@ -1,6 +1,9 @@
-// The driver of the programs that replay a stored list, for callers that lend what says whether a case is right.
+// The driver of the programs that replay a stored list, for callers that lend what says whether a case is right; `input` has the one for a list on a
+// runtime's input.
 use crate::{MOST, Tally, next_case};
 use replay_fields::{Fields, Malformed};
+
+pub mod input;
 
 // Replays the list on standard input, whose cases are of the kinds K, one after the other. A case is right where its call, which reads its
 // fields, finds it so, and nothing is left of them.
@@ -23,7 +26,7 @@ pub fn replay<
                     Ok(kind) => is_right(kind, &mut fields).unwrap_or(false) && fields.is_empty(),
                     Err(Malformed) => false,
                 };
-                tally.count(rt, right);
+                tally.count_case(rt, right);
             }
             Ok(None) => tally.stop(rt, true),
             Err(Malformed) => tally.stop(rt, false),

@@ -1,6 +1,8 @@
 // Whether a call answered and wrote what its case says.
 #![tactic(auto)]
 
+ghost use Rattle.std.specs.Prelude.{◌≡◌, length, IsTrue};
+
 use error::Refusal;
 use float_bits::{from_bits, has_bits};
 use kernel::is_answer;
@@ -9,6 +11,8 @@ use replay_fields::parts::Refused;
 use replay_fields::{Fields, Malformed};
 
 pub mod kernel;
+#[cfg(test)]
+mod tests;
 pub mod texts;
 
 // Whether a refusal is the expected one: its row of the table, with its values.
@@ -30,6 +34,13 @@ pub fn is_refusal(refusal: Refusal, expected: &Refused) -> bool {
 // Whether what a call that gives no value answered is expected.
 pub fn is_checked<E>(answered: Result<(), Refusal>, expected: &Result<E, Refused>) -> bool {
     is_answer(answered, expected, |_, _| true)
+}
+
+// Whether the values are the reals of so many bit patterns. Any NaN matches any NaN.
+pub fn are_reals(values: &[f64], bits: &[u64]) -> bool
+    ensures { IsTrue result → (length values.now ≡ length bits.now) }
+{
+    values.len() == bits.len() && values.iter().zip(bits).all(|(x, bits)| has_bits(*x, *bits))
 }
 
 // Whether a call that writes to a lent slice answered and wrote what stands next in its case: its answer, and what is in the slice then.

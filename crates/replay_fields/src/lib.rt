@@ -2,10 +2,17 @@
 // is lent for it, as a program that replays a list has no heap: it takes no more memory for a longer list, and cannot run out of it.
 #![tactic(auto)]
 
+ghost use Rattle.std.specs.Prelude.{◌≡◌, ◌≤◌, ◌↔◌, length, true, false};
+ghost use Rattle.std.specs.declared.alloc.AllocError.{AllocError};
+ghost use Rattle.replay_fields.specs.declared.Fault.{Fault};
+
 use float_bits::{from_bits, has_bits};
+use std::alloc::{AllocError, AllocFailed};
 use std::num::TryFromIntError;
 
 pub mod parts;
+#[cfg(test)]
+mod tests;
 
 // The most bytes of fields that a case has.
 pub const LONGEST: usize = 65536;
@@ -21,6 +28,47 @@ impl From<TryFromIntError> for Malformed {
     }
 }
 
+// Why a case cannot be replayed, for callers that allocate what it holds. Nothing here does.
+#[derive(Debug, Drop)]
+pub enum Fault {
+    // The bytes are no case of its kind.
+    Malformed,
+    OutOfMemory(AllocError),
+}
+
+impl From<Malformed> for Fault {
+    ghost from_gives = { λ _ fault. fault ≡ Fault.Malformed };
+
+    fn from(_error: Malformed) -> Fault {
+        Fault::Malformed
+    }
+}
+
+impl From<AllocError> for Fault {
+    ghost from_gives = { λ error fault. fault ≡ Fault.OutOfMemory error };
+
+    fn from(error: AllocError) -> Fault {
+        Fault::OutOfMemory(error)
+    }
+}
+
+impl<T: Drop> From<AllocFailed<T>> for Fault {
+    ghost from_gives = { λ _ fault. (error : AllocError) × (fault ≡ Fault.OutOfMemory error) };
+
+    fn from(failed: AllocFailed<T>) -> Fault {
+        Fault::OutOfMemory(AllocError::from(failed))
+    }
+}
+
+// A number that is too large for where it is used.
+impl From<TryFromIntError> for Fault {
+    ghost from_gives = { λ _ fault. fault ≡ Fault.Malformed };
+
+    fn from(error: TryFromIntError) -> Fault {
+        Fault::from(Malformed::from(error))
+    }
+}
+
 // The fields of a case that are still to be read.
 #[derive(Clone, Copy)]
 pub struct Fields<'a> {
@@ -29,7 +77,20 @@ pub struct Fields<'a> {
 }
 
 impl<'a> Fields<'a> {
-    pub fn new(bytes: &'a [u8]) -> Fields<'a> {
+    // Fields in any bytes.
+    pub fn new(bytes: &'a [u8]) -> Fields<'a>
+        ensures { result.is_longest ≡ false }
+    {
+        Fields {
+            rest: bytes,
+            is_longest: false,
+        }
+    }
+
+    // The fields of a case. One of the most bytes that a case has, or more, does not end with a number.
+    pub fn of_case(bytes: &'a [u8]) -> Fields<'a>
+        ensures { (result.is_longest ≡ true) ↔ (65536 ≤ length bytes.now) }
+    {
         Fields {
             rest: bytes,
             is_longest: LONGEST <= bytes.len(),
@@ -48,7 +109,7 @@ impl<'a> Fields<'a> {
         Ok(bytes)
     }
 
-    // The bytes of a number. A longest case does not end with a number.
+    // The bytes of a number.
     fn array<const N: usize>(&mut self) -> Result<[u8; N], Malformed> {
         let (bytes, rest) = self.rest.split_first_chunk::<N>().ok_or(Malformed)?;
         if self.is_longest && rest.is_empty() {
@@ -102,6 +163,10 @@ impl<'a> Fields<'a> {
 // What a case can hold as a field, or as several that belong together.
 pub trait Field: Drop {
     fn read(fields: &mut Fields<'_>) -> Result<Self, Malformed>;
+
+    // Whether it stands in a case as one number of 8 bytes, a word: a slice of words can be passed over without reading them, and `replay_rules` has a
+    // rule of its own for one without elements.
+    const IS_WORD: bool = false;
 }
 
 // The numbers have an impl each, which differ in the type: no trait has `from_le_bytes` of all four, so a generic impl would need one with as
@@ -119,12 +184,16 @@ impl Field for u32 {
 }
 
 impl Field for u64 {
+    const IS_WORD: bool = true;
+
     fn read(fields: &mut Fields<'_>) -> Result<u64, Malformed> {
         Ok(u64::from_le_bytes(fields.array()?))
     }
 }
 
 impl Field for usize {
+    const IS_WORD: bool = true;
+
     fn read(fields: &mut Fields<'_>) -> Result<usize, Malformed> {
         Ok(usize::from_le_bytes(fields.array()?))
     }
@@ -132,6 +201,8 @@ impl Field for usize {
 
 // A real, stored as its bit pattern.
 impl Field for f64 {
+    const IS_WORD: bool = true;
+
     fn read(fields: &mut Fields<'_>) -> Result<f64, Malformed> {
         Ok(from_bits(fields.read()?))
     }
@@ -139,6 +210,8 @@ impl Field for f64 {
 
 // A law, stored as a count.
 impl Field for u8 {
+    const IS_WORD: bool = true;
+
     fn read(fields: &mut Fields<'_>) -> Result<u8, Malformed> {
         let count: u64 = fields.read()?;
         Ok(u8::try_from(count)?)

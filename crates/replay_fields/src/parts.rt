@@ -1,4 +1,6 @@
 // What the cases of several kinds hold.
+ghost use Rattle.std.specs.Prelude.{◌≡◌, ◌<◌, length, IfOk, IfErr};
+
 use crate::{Field, Fields, Malformed};
 use graph_checks::CsrParts;
 use magnus_graph_checks::SpectralBound;
@@ -69,5 +71,30 @@ impl<T: Field> Field for Result<T, Refused> {
             (_, 2) => Ok(Err(Refused::Two(number, fields.read()?, fields.read()?))),
             _ => Err(Malformed),
         }
+    }
+}
+
+impl Fields<'_> {
+    // An answer with any number of values, where a `Refused` has one or two: a refusal is its row, and as many values as stand there, which are read
+    // to the start of the room.
+    pub fn answer<'r, T: Field>(
+        &mut self,
+        room: &'r mut [u64],
+    ) -> Result<Result<T, (u16, &'r [u64])>, Malformed>
+        ensures { IfOk result (λ answer. IfErr answer (λ refused. (refused.0 ≡ 0 → ⊥) × (length refused.1.now < 65536))) }
+    {
+        let number: u16 = self.read()?;
+        let count: u16 = self.read()?;
+        let values = room.get_mut(..count as usize).ok_or(Malformed)?;
+        for value in values.iter_mut() {
+            *value = self.read()?;
+        }
+        if number != 0 {
+            return Ok(Err((number, &*values)));
+        }
+        if count != 0 {
+            return Err(Malformed);
+        }
+        Ok(Ok(self.read()?))
     }
 }

@@ -65,9 +65,9 @@ fn main(rt: HostRuntime) {
     let mut tally = replay(&rt, |call, fields| {
         is_right(call, fields, &mut room, &mut src, &mut dst)
     });
-    tally.count(&rt, too_many_columns_right());
-    tally.count(&rt, most_columns_right());
-    tally.count(&rt, most_nodes_right());
-    tally.count(&rt, too_many_nodes_right());
+    tally.count_case(&rt, too_many_columns_right());
+    tally.count_case(&rt, most_columns_right());
+    tally.count_case(&rt, most_nodes_right());
+    tally.count_case(&rt, too_many_nodes_right());
     let _ = println!(rt; "{tally}");
 }
